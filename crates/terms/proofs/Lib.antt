@@ -1,0 +1,15 @@
+pub mod Booleans
+pub mod Counting
+pub mod Overs
+pub mod Readings
+pub mod Places
+pub mod Views
+pub mod Subterms
+pub mod Spans
+pub mod Unique
+pub mod Scans
+pub mod Listed
+pub mod RuleCodes
+pub mod Splices
+pub mod Exactly
+pub mod Made
