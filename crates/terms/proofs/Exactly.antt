@@ -113,6 +113,10 @@ module _ (sig : List ℕ) (few : length sig ≤ 32) where
         };
       }
 
+  pub rule-bound : (l r : List ℕ) → T (is-rule sig l r) → T (bound (term-of sig l) (term-of sig r))
+  unfolding rule-reading reading
+  rule-bound l r h = snd-of (headed (term-of sig l)) _ (snd-of (over sig (term-of sig l) && over sig (term-of sig r)) (headed (term-of sig l) && bound (term-of sig l) (term-of sig r)) (rule-reading l r h .over-signature))
+
   side-of : (t : Term) → T (over sig t) → size t ≤ 32 → T (is-side (codes t))
   side-of t h s =
       let a = length-codes t in

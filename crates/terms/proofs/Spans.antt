@@ -6,14 +6,15 @@ use Prim.Native.Nat.{ℕ, zero, suc, _+_, _-_, _≤_, _<_}
 use native.Mathlib.Omega.{arith}
 use lib.Dec.{T, leb, ltb}
 use lib.ListN.{length, getD, drop}
-use Rattle.std.proofs.shelf.Tests.{ltb-true, ltb-false}
+use Rattle.std.proofs.shelf.Tests.{ltb-true, ltb-false, le-leb}
 use Rattle.std.proofs.shelf.Lists.{at-drop-more, at-drop-all}
 use Rattle.terms.specs.Terms.{Term, Terms, Term.var, Term.app, Terms.none, Terms.more, count, size, size-all}
 use Rattle.terms.specs.Codes.{arity, known, counts, is-term, span, front, back, stack, top, rest-at, sub-at}
+use Rattle.terms.specs.Replies.{span-reply}
 use Rattle.terms.proofs.Booleans.{snd-of}
 use Rattle.terms.proofs.Counting.{arity-variable, arity-symbol}
 use Rattle.terms.proofs.Readings.{reads}
-use Rattle.terms.proofs.Views.{counted, drops, some-at, size-first}
+use Rattle.terms.proofs.Views.{counted, short, drops, some-at, size-first}
 
 front-none : (n : ℕ) → size-all (front n none) ≡ 0
 front-none zero = refl
@@ -73,3 +74,7 @@ module _ (sig : List ℕ) where
 
   pub span-met : (cs : List ℕ) (need i : ℕ) → need ≡ 0 → span sig need (drop i cs) ≡ 0
   span-met cs need i e = ap (λ n. span sig n (drop i cs)) e
+
+  -- the answer of the call, for a place of a term
+  pub span-is : (cs : List ℕ) → T (is-term sig cs) → (i : ℕ) → i < length cs → span-reply sig cs i ≡ size (sub-at sig cs i)
+  span-is cs ok i h = ap (λ b. cond b (span sig 1 (drop i cs)) 0) (le-leb (length cs) 1024 (short sig cs ok)) ∙ span-at cs ok i h

@@ -13,7 +13,7 @@ use Rattle.terms.specs.Terms.{Term, Terms, Term.var, Term.app, Terms.none, Ter
 use Rattle.terms.specs.Contexts.{joined}
 use Rattle.terms.specs.Codes.{arity, known, counts, is-term, front, back, stack, top, term-of, rest-at, sub-at}
 use Rattle.terms.proofs.Booleans.{both, fst-of, snd-of}
-use Rattle.terms.proofs.Counting.{known-symbol, arity-symbol}
+use Rattle.terms.proofs.Counting.{known-symbol, known-variable, arity-symbol}
 use Rattle.terms.proofs.Readings.{Reads, reads, count-front}
 use Rattle.terms.proofs.Places.{length-codes, length-codes-all}
 
@@ -122,3 +122,10 @@ module _ (sig cs : List ℕ) where
         let e = ap length (r .1 .same) in
         let d = length-drop i cs in
         omega arith
+
+    -- no code is past the last variable
+    pub low-at : length sig ≤ 32 → (i : ℕ) → i < length cs → getD cs i 0 < 32776
+    low-at few i h = elim (cases-lt (getD cs i 0) 32768) [
+      | inl l ↦ omega arith
+      | inr g ↦ ltb→lt (getD cs i 0) 32776 (subst (λ b. T b) (known-variable sig (getD cs i 0) g) (parts-at i h .0))
+    ]

@@ -1,0 +1,10 @@
+pub mod Images
+pub mod Meets
+pub mod Solutions
+pub mod Writing
+pub mod Stepwise
+pub mod Looks
+pub mod Systems
+pub mod Replying
+pub mod Telling
+pub mod Subjects
