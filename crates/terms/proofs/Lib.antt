@@ -13,3 +13,4 @@ pub mod RuleCodes
 pub mod Splices
 pub mod Exactly
 pub mod Made
+pub mod Derivations
