@@ -2,7 +2,6 @@
 ghost use mathlib.Core.Path.{_≡_};
 ghost use Rattle.cases.specs.Cases.{said};
 ghost use Rattle.cases.specs.Views.{case-of};
-
 use crate::list::Case;
 use crate::list::Question;
 use rewriting::matches;

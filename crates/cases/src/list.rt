@@ -5,7 +5,6 @@ ghost use lib.ListN.{length};
 ghost use Rattle.bounded.specs.Items.{items};
 ghost use Rattle.cases.specs.Cases.{worked};
 ghost use Rattle.cases.specs.Views.{cases-of};
-
 use bounded::ArrayVec;
 
 #[derive(Clone, Copy)]

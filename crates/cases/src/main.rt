@@ -39,7 +39,11 @@ fn print_case(rt: &LibcRuntime, case: &Case) -> io::Result<()> {
         }
     }
     let answer = ask(case);
-    let verdict = if answer == case.expected { "as expected" } else { "WRONG" };
+    let verdict = if answer == case.expected {
+        "as expected"
+    } else {
+        "WRONG"
+    };
     println!(rt, ": {answer}, {verdict}")
 }
 

@@ -36,10 +36,26 @@ fn match_at(pattern: &[u16], codes: &[u16], at: usize) -> Result<bool, RewriteFa
 pub fn try_matches(rt: &LibcRuntime) -> io::Result<()> {
     say_match(rt, "a matches z", match_at(&[32768], &[1], 0))?;
     say_match(rt, "z matches a", match_at(&[1], &[32768], 0))?;
-    say_match(rt, "add(a, a) matches add(b, b)", match_at(&[0, 32768, 32768], &[0, 32769, 32769], 0))?;
-    say_match(rt, "add(a, a) matches add(b, a)", match_at(&[0, 32768, 32768], &[0, 32769, 32768], 0))?;
-    say_match(rt, "s(a) matches add(s(z), z) at 1", match_at(&[2, 32768], &[0, 2, 1, 1], 1))?;
-    say_match(rt, "s(a) matches add(s(z), z) at 4", match_at(&[2, 32768], &[0, 2, 1, 1], 4))?;
+    say_match(
+        rt,
+        "add(a, a) matches add(b, b)",
+        match_at(&[0, 32768, 32768], &[0, 32769, 32769], 0),
+    )?;
+    say_match(
+        rt,
+        "add(a, a) matches add(b, a)",
+        match_at(&[0, 32768, 32768], &[0, 32769, 32768], 0),
+    )?;
+    say_match(
+        rt,
+        "s(a) matches add(s(z), z) at 1",
+        match_at(&[2, 32768], &[0, 2, 1, 1], 1),
+    )?;
+    say_match(
+        rt,
+        "s(a) matches add(s(z), z) at 4",
+        match_at(&[2, 32768], &[0, 2, 1, 1], 4),
+    )?;
     say_match(rt, "s matches z", match_at(&[2], &[1], 0))?;
     say_match(rt, "z matches s", match_at(&[1], &[2], 0))
 }

@@ -35,8 +35,16 @@ pub fn try_rules(rt: &LibcRuntime) -> io::Result<()> {
     say_made(rt, "empty left side", rule_fault(&[], &[1]))?;
     say_made(rt, "empty right side", rule_fault(&[1], &[]))?;
     say_made(rt, "left side a variable", rule_fault(&[32768], &[1]))?;
-    say_made(rt, "right variable absent", rule_fault(&[2, 32768], &[32769]))?;
-    say_made(rt, "right variable present", rule_fault(&[2, 32769], &[32769]))?;
+    say_made(
+        rt,
+        "right variable absent",
+        rule_fault(&[2, 32768], &[32769]),
+    )?;
+    say_made(
+        rt,
+        "right variable present",
+        rule_fault(&[2, 32769], &[32769]),
+    )?;
     say_made(rt, "variable number 7", rule_fault(&[2, 32775], &[1]))?;
     say_made(rt, "variable number 8", rule_fault(&[2, 32776], &[1]))?;
     say_made(rt, "left side of 32 codes", rule_fault(&[2; 32], &[1]))?;

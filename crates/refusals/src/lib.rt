@@ -2,8 +2,7 @@
 // Each layer's own fault enum says by a call `refusal` which of these it stands for.
 ghost use mathlib.Core.Path.{_≡_};
 ghost use Rattle.std.specs.declared.option.Option.the-variants.{Some};
-ghost use Rattle.refusals.specs.Lines.{layer-name, line};
-
+ghost use Rattle.refusals.specs.Lines.{layer-name, line, Lines-tell};
 use std::fmt;
 
 // Where a refusal comes from, in the order in which a job passes the layers.
@@ -48,5 +47,29 @@ pub impl fmt::Display for Refusal as RefusalDisplay {
         let layer = self.layer.name();
         let place = self.place;
         write!(f, "refused {number} {layer} {place}")
+    }
+}
+
+// A printed line tells which refusal it stands for.
+pub fn lines_tell() -> u8
+    ensures { λ _. ⌜ Lines-tell ⌝ }
+{
+    0
+}
+
+#[cfg(test)]
+mod tests {
+    use super::*;
+    use std::test::*;
+
+    #[test]
+    fn prints_number_layer_and_place(rt: LibcRuntime) -> Result<(), Fail> {
+        let refusal = Refusal {
+            number: 5,
+            layer: Layer::Rules,
+            place: 16,
+        };
+        let line = refusal.to_string(rt.alloc())?;
+        check(line.as_str() == "refused 5 rules 16")
     }
 }

@@ -3,7 +3,6 @@ ghost use mathlib.Core.Path.{_≡_};
 ghost use Rattle.std.specs.Vec.{made};
 ghost use Rattle.rewriting.specs.Subjects.{rules-in, term-in};
 ghost use Rattle.reserve.specs.Trips.{Advanced, Followed};
-
 use rewriting::RewriteFault;
 use rewriting::Subject;
 use std::io;

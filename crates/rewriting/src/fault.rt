@@ -1,7 +1,6 @@
 // Why a call on terms has no result.
 ghost use mathlib.Core.Path.{_≡_};
 ghost use Rattle.rewriting.specs.Replies.{fault-refusal};
-
 use refusals::Layer;
 use refusals::Refusal;
 

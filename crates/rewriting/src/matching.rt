@@ -4,7 +4,6 @@ ghost use Rattle.terms.specs.Models.{arities-of};
 ghost use Rattle.rewriting.specs.Bindings.{Meeting, Answered};
 ghost use Rattle.rewriting.specs.Replies.{match-reply};
 ghost use Rattle.rewriting.specs.Laws.{Matched};
-
 use crate::bindings::Bindings;
 use crate::bindings::Range;
 use crate::fault::RewriteFault;

@@ -10,7 +10,6 @@ ghost use Rattle.terms.specs.Models.{arities-of, sides-of};
 ghost use Rattle.rewriting.specs.Bindings.{Applying, All-inside};
 ghost use Rattle.rewriting.specs.Filling.{Grew, filled};
 ghost use Rattle.rewriting.specs.Replies.{stepped, answer, Written};
-
 use crate::bindings::Bindings;
 use crate::fault::RewriteFault;
 use crate::matching::match_at;

@@ -7,7 +7,6 @@ ghost use Rattle.terms.specs.Codes.{is-term, sub-at};
 ghost use Rattle.terms.specs.Models.{arities-of, all-sides, all-rules};
 ghost use Rattle.terms.specs.Systems.{signature-of, rules-from, rules-of};
 ghost use Rattle.rewriting.specs.Searching.{rule-from, first-redex};
-
 use crate::bindings::Bindings;
 use crate::matching::match_at;
 use terms::Rule;

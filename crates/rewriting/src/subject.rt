@@ -3,13 +3,12 @@ ghost use lib.Dec.{T};
 ghost use Rattle.bounded.specs.Items.{items};
 ghost use Rattle.terms.specs.Codes.{is-term};
 ghost use Rattle.terms.specs.Systems.{signature-of};
-
 use bounded::ArrayVec;
 use terms::System;
 
 mod calls;
 
-#[derive(Clone, Copy)]
+#[derive(Drop)]
 pub struct Subject {
     system: System,
     term: ArrayVec<u16, 1024>,

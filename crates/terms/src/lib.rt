@@ -14,6 +14,9 @@ pub use system::System;
 pub const FIRST_VARIABLE: u16 = 32768;
 // The last of the eight variables.
 pub const LAST_VARIABLE: u16 = 32775;
+
 pub const MOST_ARGUMENTS: u8 = 4;
+
 pub const MOST_SIDE: usize = 32;
+
 pub const MOST_TERM: usize = 1024;

@@ -1,7 +1,6 @@
 // What is no signature, no rule, no system or no term within the limits.
 ghost use mathlib.Core.Path.{_≡_};
 ghost use Rattle.terms.specs.Replies.{malformed-refusal};
-
 use refusals::Layer;
 use refusals::Refusal;
 

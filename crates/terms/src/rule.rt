@@ -2,12 +2,11 @@
 ghost use lib.Dec.{T};
 ghost use Rattle.bounded.specs.Items.{items};
 ghost use Rattle.terms.specs.Shapes.{is-proper};
-
 use bounded::ArrayVec;
 
 mod calls;
 
-pub use calls::is_proper;
+pub(crate) use calls::is_proper;
 
 #[derive(Clone, Copy)]
 pub struct Rule {

@@ -2,7 +2,6 @@
 ghost use lib.Dec.{T};
 ghost use Rattle.bounded.specs.Items.{items};
 ghost use Rattle.terms.specs.Shapes.{is-signature};
-
 use bounded::ArrayVec;
 
 mod calls;

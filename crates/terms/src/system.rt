@@ -2,7 +2,6 @@
 ghost use lib.Dec.{T};
 ghost use Rattle.bounded.specs.Items.{items};
 ghost use Rattle.terms.specs.Models.{arities-of, all-sides, all-rules};
-
 use crate::rule::Rule;
 use crate::signature::Signature;
 use bounded::ArrayVec;

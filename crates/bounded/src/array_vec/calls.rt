@@ -2,7 +2,6 @@
 ghost use mathlib.Core.Path.{_≡_};
 ghost use mathlib.Core.List.{[], _∷_};
 ghost use Rattle.bounded.specs.Items.{items, room, grown};
-
 use crate::array_vec::ArrayVec;
 use std::alloc::AllocError;
 

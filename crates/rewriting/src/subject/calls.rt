@@ -1,16 +1,15 @@
 // The calls on a subject.
 ghost use mathlib.Core.Path.{_≡_};
-ghost use mathlib.Core.Bool.{Bool, not};
-ghost use Rattle.std.specs.Options.{isSome};
+ghost use Rattle.std.specs.Results.{isOk};
 ghost use Rattle.std.specs.Orderings.{Decides};
 ghost use Rattle.terms.specs.Steps.{Normal, First-redex};
 ghost use Rattle.terms.specs.Systems.{signature-of};
 ghost use Rattle.terms.specs.Replies.{viewed};
+ghost use Rattle.terms.specs.Laws.{Reading};
 ghost use Rattle.rewriting.specs.Searching.{first-redex};
 ghost use Rattle.rewriting.specs.Replies.{rewritten, answer, codes-after};
 ghost use Rattle.rewriting.specs.Subjects.{arities-in, rules-in, codes-in, term-in, opened, subject-reply};
 ghost use Rattle.rewriting.specs.Laws.{Rewrites};
-
 use crate::fault::RewriteFault;
 use crate::replacing::step_into;
 use crate::searching::find_redex;
@@ -22,7 +21,8 @@ use terms::System;
 impl Subject {
     // A term of at most 1,024 codes over the system's signature.
     pub fn new(system: System, codes: &[u16]) -> Result<Subject, Malformed>
-        ensures { λ r. ⌜ viewed opened r ≡ subject-reply system (now (codes .entry)) ⌝ }
+        ensures value { λ r. ⌜ viewed opened r ≡ subject-reply system (now (codes .entry)) ⌝ }
+        ensures means { λ r. ⌜ Decides (isOk r) (Reading (signature-of system) (now (codes .entry))) ⌝ }
     {
         if !system.signature().is_term(codes) {
             return Err(Malformed::Term);
@@ -77,7 +77,13 @@ impl Subject {
         if place >= codes.len() {
             return Err(RewriteFault::NoPlace);
         }
-        step_into(self.system.signature(), &rules[rule], codes, place, &mut self.next)?;
+        step_into(
+            self.system.signature(),
+            &rules[rule],
+            codes,
+            place,
+            &mut self.next,
+        )?;
         let next = self.next;
         self.term = next;
         Ok(())

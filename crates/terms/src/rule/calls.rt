@@ -7,7 +7,6 @@ ghost use Rattle.bounded.specs.Items.{items};
 ghost use Rattle.terms.specs.Shapes.{has, covers, all-within, is-side, is-proper};
 ghost use Rattle.terms.specs.Models.{Sides, sides-of};
 ghost use Rattle.terms.specs.Replies.{viewed, rule-reply};
-
 use crate::FIRST_VARIABLE;
 use crate::LAST_VARIABLE;
 use crate::MOST_SIDE;
@@ -61,7 +60,7 @@ fn is_side(codes: &[u16]) -> bool
 }
 
 // Whether two sides are a rule under some signature: the left is no variable, and has all variables of the right.
-pub fn is_proper(left: &[u16], right: &[u16]) -> bool
+pub(crate) fn is_proper(left: &[u16], right: &[u16]) -> bool
     ensures { λ r. ⌜ r ≡ is-proper (now (left .entry)) (now (right .entry)) ⌝ }
 {
     if !is_side(left) {
@@ -100,7 +99,7 @@ impl Rule {
     }
 
     // A rule that stands where no rule of a system is kept.
-    pub fn unused() -> Rule
+    pub(crate) fn unused() -> Rule
         ensures { λ r. ⌜ sides-of r ≡ record { left = 0 ∷ []; right = 0 ∷ [] } ⌝ }
     {
         Rule {

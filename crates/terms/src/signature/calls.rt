@@ -8,7 +8,6 @@ ghost use Rattle.terms.specs.Shapes.{all-within, is-rule};
 ghost use Rattle.terms.specs.Models.{arities-of};
 ghost use Rattle.terms.specs.Replies.{viewed, signature-reply, span-reply, end-reply};
 ghost use Rattle.terms.specs.Laws.{Signature-exactly, Term-exactly, Rule-exactly, Ends-exactly};
-
 use crate::FIRST_VARIABLE;
 use crate::LAST_VARIABLE;
 use crate::MOST_ARGUMENTS;

@@ -4,7 +4,6 @@ ghost use Rattle.terms.specs.Models.{arities-of, all-sides, all-rules};
 ghost use Rattle.terms.specs.Systems.{system-of, signature-of, listed-rules, system-reply};
 ghost use Rattle.terms.specs.Replies.{viewed};
 ghost use Rattle.terms.specs.Laws.{System-exactly};
-
 use crate::malformed::Malformed;
 use crate::rule::Rule;
 use crate::signature::Signature;
