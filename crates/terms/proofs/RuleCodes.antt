@@ -17,7 +17,7 @@ has-append : (c : ℕ) (xs ys : List ℕ) → has (xs ++ ys) c ≡ (has xs c || 
 has-append c [] ys = refl
 has-append c (a ∷ xs) ys = ap (λ b. eqb c a || b) (has-append c xs ys) ∙ sym (or-assoc (eqb c a) (has xs c) (has ys c))
 
-covers-append : (ls xs ys : List ℕ) → covers ls (xs ++ ys) ≡ (covers ls xs && covers ls ys)
+pub covers-append : (ls xs ys : List ℕ) → covers ls (xs ++ ys) ≡ (covers ls xs && covers ls ys)
 covers-append ls [] ys = refl
 covers-append ls (a ∷ xs) ys = ap (λ b. (ltb a 32768 || has ls a) && b) (covers-append ls xs ys) ∙ sym (and-assoc (ltb a 32768 || has ls a) (covers ls xs) (covers ls ys))
 

@@ -3,20 +3,12 @@ use refusals::Refusal;
 use refusals::RefusalDisplay;
 use rewriting::RewriteFault;
 use std::io;
-use terms::Malformed;
 
 fn say_refused(rt: &LibcRuntime, what: &str, refusal: Refusal) -> io::Result<()> {
     println!(rt, "{what}: {refusal}")
 }
 
-pub fn say_made(rt: &LibcRuntime, what: &str, fault: Option<Malformed>) -> io::Result<()> {
-    match fault {
-        None => println!(rt, "{what}: accepted"),
-        Some(fault) => say_refused(rt, what, fault.refusal()),
-    }
-}
-
-pub fn say_test(rt: &LibcRuntime, what: &str, answer: bool) -> io::Result<()> {
+fn say_test(rt: &LibcRuntime, what: &str, answer: bool) -> io::Result<()> {
     println!(rt, "{what}: {answer}")
 }
 
