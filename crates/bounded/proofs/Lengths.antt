@@ -2,7 +2,7 @@
 use mathlib.Core.Path.{_≡_, refl, sym, ap, _∙_}
 use mathlib.Core.List.{List, [], _∷_, _++_, append-assoc, append-nil}
 use mathlib.Core.Bool.{true, false}
-use Prim.Native.Nat.{ℕ, _+_, _-_, _≤_, _<_}
+use Prim.Native.Nat.{ℕ, zero, suc, _+_, _-_, _≤_, _<_}
 use native.Mathlib.Omega.{arith}
 use lib.ListN.{length, take, getD, set}
 use Rattle.std.proofs.shelf.Lists.{length-take-le, take-more, take-more-set}
@@ -41,3 +41,10 @@ module _ {T : Type 0} (before : List T) where
       ∙ ap (λ l. l ++ (x ∷ [])) inv
       ∙ append-assoc (take start before) (take i more) (x ∷ [])
       ∙ ap (λ l. take start before ++ l) (ap (λ y. take i more ++ (y ∷ [])) e ∙ sym (take-more more i x k))
+
+-- an item replaced among the first n
+pub take-of-set : {T : Type 0} (n : ℕ) (xs : List T) (i : ℕ) (y : T) → take n (set xs i y) ≡ set (take n xs) i y
+take-of-set zero xs i y = refl
+take-of-set (suc n) [] i y = refl
+take-of-set (suc n) (x ∷ xs) zero y = refl
+take-of-set (suc n) (x ∷ xs) (suc i) y = ap (λ l. x ∷ l) (take-of-set n xs i y)

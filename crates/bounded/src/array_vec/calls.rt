@@ -1,6 +1,8 @@
 // The calls. What is full refuses, and keeps what it holds.
 ghost use mathlib.Core.Path.{_≡_};
 ghost use mathlib.Core.List.{[], _∷_};
+ghost use lib.Dec.{ltb};
+ghost use lib.ListN.{length, set};
 ghost use Rattle.bounded.specs.Items.{items, room, grown};
 use crate::array_vec::ArrayVec;
 use std::alloc::AllocError;
@@ -58,6 +60,18 @@ impl<T: Copy, const N: usize> ArrayVec<T, N> {
             self.slots[start + i] = *item;
         }
         self.len = start + more.len();
+        true
+    }
+
+    // Another item at a place; false where there is none.
+    pub fn set(&mut self, place: usize, item: T) -> bool
+        ensures inside { λ r. ⌜ r ≡ ltb place (length (items (now (self .entry)))) ⌝ }
+        ensures items { λ r. ⌜ items (now (self .exit)) ≡ set (items (now (self .entry))) place item ⌝ }
+    {
+        if place >= self.len {
+            return false;
+        }
+        self.slots[place] = item;
         true
     }
 

@@ -1,5 +1,6 @@
 // Names from bytes, and their comparison.
 ghost use mathlib.Core.Path.{_≡_};
+ghost use mathlib.Core.List.{[], _∷_};
 ghost use Rattle.std.specs.Options.{mapped};
 ghost use Rattle.std.specs.shelf.Text.{sameBytes};
 ghost use Rattle.tokens.specs.Bytes.{letter, all-letters};
@@ -44,6 +45,15 @@ impl Name {
             return None;
         }
         Some(Name { bytes: kept })
+    }
+
+    // The name _, for memory that holds no name yet.
+    pub fn placeholder() -> Name
+        ensures { λ r. ⌜ name-bytes r ≡ 95 ∷ [] ⌝ }
+    {
+        let mut kept = ArrayVec::new(0);
+        kept.push(b'_');
+        Name { bytes: kept }
     }
 
     pub fn bytes(&self) -> &[u8]

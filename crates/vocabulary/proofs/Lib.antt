@@ -1,0 +1,5 @@
+pub mod Names
+pub mod Founds
+pub mod Growing
+pub mod Consistency
+pub mod Calls

@@ -1,0 +1,5 @@
+pub mod Vocabularies
+pub mod Growth
+pub mod Models
+pub mod Laws
+pub mod Replies
