@@ -1,0 +1,4 @@
+pub mod Spelling
+pub mod Sides
+pub mod Flags
+pub mod Laws
