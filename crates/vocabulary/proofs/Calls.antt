@@ -38,8 +38,14 @@ few-symbols v = let a = names-length (items (v .symbols)) in let b = items-few (
 pub few-variables : (v : kept.Vocabulary) → length (vocabulary-of v .variables) ≤ 8
 few-variables v = let a = names-length (items (v .variables)) in let b = items-few (v .variables) in omega arith
 
-pub found-below : (xs : List (List ℕ)) (n : List ℕ) (c : ℕ) → Some c ≡ found 0 xs n → c < length xs
+found-below : (xs : List (List ℕ)) (n : List ℕ) (c : ℕ) → Some c ≡ found 0 xs n → c < length xs
 found-below xs n c e = let h = found-is 0 c xs n (sym e) in let a = h .is in let b = h .inside in omega arith
+
+pub found-variable : (v : kept.Vocabulary) (xs : List Name) (n : List ℕ) (x : ℕ) → xs ≡ items (v .variables) → Some x ≡ found 0 (names xs) n → x < 8
+found-variable v xs n x e h = let a = found-below (names xs) n x h in let b = ap (λ l. length (names l)) e in let c = few-variables v in omega arith
+
+pub found-symbol : (v : kept.Vocabulary) (xs : List Name) (n : List ℕ) (f : ℕ) → xs ≡ items (v .symbols) → Some f ≡ found 0 (names xs) n → f < 32
+found-symbol v xs n f e h = let a = found-below (names xs) n f h in let b = ap (λ l. length (names l)) e in let c = few-symbols v in omega arith
 
 pub is-none : (o : Option ℕ) → isSome o ≡ false → o ≡ None
 is-none None e = refl

@@ -6,41 +6,26 @@ ghost use lib.Dec.{T};
 ghost use lib.ListN.{length, drop, getD};
 ghost use Rattle.std.specs.declared.option.Option.the-variants.{Some};
 ghost use Rattle.tokens.specs.Bytes.{blank, letter, all-letters, run};
+ghost use Rattle.tokens.specs.Classes.{in-class};
 ghost use Rattle.tokens.specs.Tokens.{tokens, name-or-long, is-arrow, mark, token, extra};
 ghost use Rattle.tokens.specs.Cuts.{Tokenized};
 ghost use Rattle.tokens.specs.Lexing.{word-of, Pops};
 ghost use Rattle.tokens.specs.Lexers.{rest-of, end-of};
+use crate::class::Class;
 use crate::lexer::Lexer;
 use crate::name::Name;
 use crate::name::is_letter;
 use crate::token::Lexeme;
 use crate::token::Token;
 
-fn is_blank(b: u8) -> bool
-    ensures { λ r. ⌜ r ≡ blank b ⌝ }
-{
-    b == b' ' || b == b'\t' || b == b'\r' || b == b'\n'
-}
-
-fn past_blanks(text: &[u8], from: usize) -> usize
+// The first place from `from` on that is of another class.
+fn past(class: Class, text: &[u8], from: usize) -> usize
     requires { ⌜ from ≤ length (now text) ⌝ }
-    ensures end { λ r. ⌜ r ≡ from + run blank (drop from (now (text .entry))) ⌝ }
+    ensures end { λ r. ⌜ r ≡ from + run (in-class class) (drop from (now (text .entry))) ⌝ }
     ensures within { λ r. ⌜ r ≤ length (now (text .entry)) ⌝ }
 {
     let mut i = from;
-    while i < text.len() && is_blank(text[i]) {
-        i += 1;
-    }
-    i
-}
-
-fn past_letters(text: &[u8], from: usize) -> usize
-    requires { ⌜ from ≤ length (now text) ⌝ }
-    ensures end { λ r. ⌜ r ≡ from + run letter (drop from (now (text .entry))) ⌝ }
-    ensures within { λ r. ⌜ r ≤ length (now (text .entry)) ⌝ }
-{
-    let mut i = from;
-    while i < text.len() && is_letter(text[i]) {
+    while i < text.len() && class.has(text[i]) {
         i += 1;
     }
     i
@@ -92,7 +77,7 @@ fn token_at(text: &[u8], at: usize) -> (Token, usize)
 {
     let b = text[at];
     if is_letter(b) {
-        let end = past_letters(text, at + 1);
+        let end = past(Class::Letter, text, at + 1);
         return (name_token(&text[at..end]), end);
     }
     if is_arrow_at(text, at) {
@@ -115,7 +100,7 @@ impl<'a> Lexer<'a> {
         ensures pops { λ r. ⌜ Pops (rest-of (now (self .entry))) (end-of (now (self .entry))) r (rest-of (now (self .exit))) ⌝ }
         ensures end { λ r. ⌜ end-of (now (self .exit)) ≡ end-of (now (self .entry)) ⌝ }
     {
-        let at = past_blanks(self.text, self.pos);
+        let at = past(Class::Blank, self.text, self.pos);
         if at >= self.text.len() {
             self.pos = at;
             return Lexeme {

@@ -19,9 +19,9 @@ name-token-requires c κs =
     let at = c .args .at in
     let b = getD text at 0 in
     let bs = drop (at + 1) text in
-    let end = c .past-letters-end .ensures .end in
-    let n : c .past-letters-end .result - at ≡ suc (run letter bs) = omega arith in
-    let cut : take (c .past-letters-end .result - at) (drop at text) ≡ b ∷ take (run letter bs) bs = ap (λ k. take k (drop at text)) n ∙ ap (take (suc (run letter bs))) (drop-more text at 0 (c .pre)) in
+    let end = c .past-end .ensures .end in
+    let n : c .past-end .result - at ≡ suc (run letter bs) = omega arith in
+    let cut : take (c .past-end .result - at) (drop at text) ≡ b ∷ take (run letter bs) bs = ap (λ k. take k (drop at text)) n ∙ ap (take (suc (run letter bs))) (drop-more text at 0 (c .pre)) in
     record {
       some = (let l = ap length cut in omega arith);
       pure = subst (λ b. T b) (sym (ap all-letters cut ∙ and-from _ _ (sym (c .if-is-letter .ensures tt)) (run-letters bs))) tt;
@@ -34,13 +34,13 @@ returns-then-is-letter c =
     let b = getD text at 0 in
     let bs = drop (at + 1) text in
     let is : letter b ≡ true = sym (c .if-is-letter .ensures tt) in
-    let end = c .past-letters-end .ensures .end in
-    let n : c .past-letters-end .result - at ≡ suc (run letter bs) = omega arith in
-    let cut : take (c .past-letters-end .result - at) (drop at text) ≡ b ∷ take (run letter bs) bs = ap (λ k. take k (drop at text)) n ∙ ap (take (suc (run letter bs))) (drop-more text at 0 (c .pre)) in
+    let end = c .past-end .ensures .end in
+    let n : c .past-end .result - at ≡ suc (run letter bs) = omega arith in
+    let cut : take (c .past-end .result - at) (drop at text) ≡ b ∷ take (run letter bs) bs = ap (λ k. take k (drop at text)) n ∙ ap (take (suc (run letter bs))) (drop-more text at 0 (c .pre)) in
     record {
       word = c .name-token .ensures ∙ ap (λ l. Some (name-or-long l)) cut ∙ ap Some (sym (cond-true (letter b) _ _ is));
       end = end ∙ ap (λ k. at + 1 + k) (sym (cond-true (letter b) _ _ is));
-      within = c .past-letters-end .ensures .within;
+      within = c .past-end .ensures .within;
     }
 
 pub returns-then-is-arrow-at : need.returns-then-is-arrow-at

@@ -4,23 +4,15 @@ use Rattle.bounded.specs.Items.{items}
 use Rattle.tokens.specs.Names.{name-bytes}
 use Rattle.vocabulary.specs.Vocabularies.{names, found, var-or}
 use Rattle.vocabulary.specs.Models.{vocabulary-of}
-use Rattle.vocabulary.proofs.Calls.{few-symbols, few-variables, found-below, consistent}
+use Rattle.vocabulary.proofs.Calls.{found-variable, found-symbol, consistent}
 use Rattle.vocabulary.proofs.Consistency.{code-exactly}
 use Rattle.vocabulary.proofs.vocabulary.Vocabulary.code_of.Needs as need
 
 pub cast-result : need.cast-result
-cast-result c =
-    let s = c .args .self .now in
-    let a = found-below (vocabulary-of s .variables) (name-bytes (c .args .name .now)) (c .in-Some .variable) (c .in-Some .ensures tt ∙ ap (λ l. found 0 (names l) (name-bytes (c .args .name .now))) (c .as-slice .ensures)) in
-    let b = few-variables s in
-    omega arith
+cast-result c = let a = found-variable (c .args .self .now) _ (name-bytes (c .args .name .now)) (c .in-Some .variable) (c .as-slice .ensures) (c .in-Some .ensures tt) in omega arith
 
 pub add-result : need.add-result
-add-result c =
-    let s = c .args .self .now in
-    let a = found-below (vocabulary-of s .variables) (name-bytes (c .args .name .now)) (c .in-Some .variable) (c .in-Some .ensures tt ∙ ap (λ l. found 0 (names l) (name-bytes (c .args .name .now))) (c .as-slice .ensures)) in
-    let b = few-variables s in
-    omega arith
+add-result c = let a = found-variable (c .args .self .now) _ (name-bytes (c .args .name .now)) (c .in-Some .variable) (c .as-slice .ensures) (c .in-Some .ensures tt) in omega arith
 
 pub returns-in-Some : need.returns-in-Some
 returns-in-Some c =
@@ -32,10 +24,7 @@ returns-in-Some c =
 
 pub cast-result-in-Some-find : need.cast-result-in-Some-find
 cast-result-in-Some-find c =
-    let s = c .args .self .now in
-    let a = found-below (vocabulary-of s .symbols) (name-bytes (c .args .name .now)) (c .in-Some-find .symbol) (c .in-Some-find .ensures tt ∙ ap (λ l. found 0 (names l) (name-bytes (c .args .name .now))) (c .as-slice-2 .ensures)) in
-    let b = few-symbols s in
-    omega arith
+    let a = found-symbol (c .args .self .now) _ (name-bytes (c .args .name .now)) (c .in-Some-find .symbol) (c .as-slice-2 .ensures) (c .in-Some-find .ensures tt) in omega arith
 
 pub returns-in-Some-find : need.returns-in-Some-find
 returns-in-Some-find c =
