@@ -88,6 +88,16 @@ def lemma(parts, defined):
     return text
 
 
+def from_library(text, own):
+    """What a file imports from elsewhere than this repository's crates."""
+    out = set()
+    for m in re.finditer(r"use (\S+?)\.\{([^}]*)\}", text):
+        parts = m[1].split(".")
+        if not (parts[0] == "Rattle" and len(parts) > 1 and parts[1] in own):
+            out |= {w.strip().split(" as ")[0] for w in m[2].split(",")}
+    return out
+
+
 def turned(text, names, fields, made):
     def by(m):
         word = m[0]
@@ -138,15 +148,13 @@ def main():
             print("together:", new, olds)
         if new in others:
             print("stands already:", new, olds, os.path.relpath(others[new], ROOT))
+    own = set(os.listdir(ROOT))
     made = set()
     count = 0
     for path in files(".antt", ".rt"):
         text = read(path)
-        if path.endswith(".rt"):
-            # clauses and imports alone: no name of code or text in quotes has a dash
-            new = turned(text, {k: v for k, v in names.items()}, fields, made)
-        else:
-            new = turned(text, names, fields, made)
+        kept = from_library(text, own)
+        new = turned(text, {k: v for k, v in names.items() if k not in kept}, fields, made)
         if new != text:
             count += 1
             if "--dry" not in sys.argv:

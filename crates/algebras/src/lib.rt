@@ -1,5 +1,7 @@
 // Algebras: what bounds the derivations of a system. An algebra's meaning and its laws stand in specs/Meanings.antt;
 // the calls answer for it on codes, and say what that means for terms (specs/Laws.antt).
+#![tactic(auto)]
+
 pub mod algebra;
 pub mod empty;
 pub mod fault;

@@ -1,4 +1,6 @@
 // Vectors of bounded length that own their memory, for everything in the product that has a limit.
+#![tactic(auto)]
+
 pub mod array_vec;
 
 pub use array_vec::ArrayVec;

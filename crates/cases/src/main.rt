@@ -1,4 +1,6 @@
 // The worked cases, run through the code: one line a case, and whether the answer is the expected one.
+#![tactic(auto)]
+
 ghost use Rattle.std.specs.Prelude.{◌≡◌};
 ghost use Rattle.cases.specs.Cases.{AllHold, worked};
 

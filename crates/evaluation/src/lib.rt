@@ -1,5 +1,7 @@
 // One evaluator for every kind of value: a term's codes are read from the last to the first, and the values of the
 // terms behind a code wait on a stack over lent memory.
+#![tactic(auto)]
+
 ghost use Rattle.std.specs.Prelude.{◌≡◌, ◌+◌, ◌<◌, ◌≤◌, T, length, if◌then◌else◌};
 ghost use Rattle.terms.specs.Codes.{arity, known, is_term};
 ghost use Rattle.evaluation.specs.Structures.{Every, applied, stepped};

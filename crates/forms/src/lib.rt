@@ -1,4 +1,6 @@
 // Heights of terms and linear forms of rules, for any kind of vector: by the one evaluator, on codes.
+#![tactic(auto)]
+
 ghost use Rattle.std.specs.Prelude.{◌≡◌, length, slice_index_or};
 ghost use Rattle.interpretations.specs.Numbers.{every};
 ghost use Rattle.forms.specs.Columns.{width};

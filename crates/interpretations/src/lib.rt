@@ -1,5 +1,7 @@
 // The mathematics of linear and matrix parts, for every dimension. The definitions and laws are in specs/; there is no
 // code here beyond functions whose contracts are the laws.
+#![tactic(auto)]
+
 ghost use Rattle.interpretations.specs.Laws.{Formed, WeakExactly, StrictExactly, GivenExactly, ReadableExactly, UntestedFits, LinearCeiled, PartsLawful};
 
 // The value of a term is its linear form applied to the assignment, and rules are weak and strict exactly by the values.

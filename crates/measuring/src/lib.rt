@@ -1,4 +1,6 @@
 // What parts answer as algebras, under a signature that has to be their own.
+#![tactic(auto)]
+
 ghost use Rattle.std.specs.Prelude.{◌≡◌, ◌≤◌, length};
 ghost use Rattle.terms.specs.Models.{arities_of};
 ghost use Rattle.algebras.specs.Replies.{measured, compared, order as order_from, ceiling_told};

@@ -1,4 +1,6 @@
 // Linear and matrix parts: interpretations of a signature by numbers and by vectors, checked when they are made.
+#![tactic(auto)]
+
 pub mod linear;
 pub mod matrix;
 

@@ -1,4 +1,6 @@
 // The parts of a certificate as algebras, and the pile that four of them make.
+#![tactic(auto)]
+
 pub mod part;
 pub mod piling;
 

@@ -1,4 +1,6 @@
 // An algebra of one's own, plugged into the interface: asked, summed and reviewed like any other.
+#![tactic(auto)]
+
 mod uncapped;
 
 use algebras::{Algebra, Empty, Sum, review};

@@ -1,4 +1,6 @@
 // Terms printed with their names: what is printed is read back as the term.
+#![tactic(auto)]
+
 pub mod fault;
 mod piece;
 pub mod print;

@@ -1,6 +1,8 @@
 // How texts are read, token by token: rule texts, and start terms over the names of one. The definitions are in specs/,
 // and above them the laws: a text is accepted exactly if it is spelled, and a refusal is certain where it stands. The
 // code reads one term.
+#![tactic(auto)]
+
 ghost use Rattle.std.specs.Prelude.{◌≡◌};
 ghost use Rattle.reading.specs.Laws.{StartExactly};
 ghost use Rattle.reading.specs.Exactly.{TextsRead};

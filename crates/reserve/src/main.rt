@@ -1,4 +1,6 @@
 // Follows a trip to its normal form and prints a record of it: rules and symbols, each step, the final codes.
+#![tactic(auto)]
+
 mod follow;
 
 use follow::{End, Trip, follow};

@@ -1,4 +1,6 @@
 // Bad places, matches and rewrites, and every limit from both sides: one line a try.
+#![tactic(auto)]
+
 mod rewrites;
 mod texts;
 

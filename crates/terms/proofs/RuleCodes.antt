@@ -1,6 +1,6 @@
 -- A rule, by the codes of its sides.
 use Rattle.std.proofs.Common.{◌≡◌, ℕ, zero, suc, ◌+◌, ◌-◌, ◌<◌, ◌≤◌, Bool, true, false, ◌&&◌, ◌||◌, T, eqb, ltb, leb, ◌⊎◌, List, [], ◌∷◌, ◌++◌, length, get_or, sym, refl, ap, ◌∙◌, subst, ap₂, inl, inr, arith, ltb→lt}
-use mathlib.Core.Bool.{and_assoc, or_assoc, or-false, and_true}
+use mathlib.Core.Bool.{and_assoc, or_assoc, or-false, and-true}
 use Rattle.std.proofs.lemmas.Bool.{lt-ltb, le-ltb, le-leb, eq-eqb, ne_eqb, cases_eq}
 use Rattle.terms.specs.Terms.{Term, Terms, Term.var, Term.app, Terms.none, Terms.more, count, codes, codes_all, over, over_all}
 use Rattle.terms.specs.Rules.{occurs, occurs_some, bound, bound_all, headed}
@@ -53,7 +53,7 @@ module _ (sig : List ℕ) (few : length sig ≤ 32768) where
     pub bound_codes : (t l : Term) → T (over sig l) → T (over sig t) → bound l t ≡ covers (codes l) (codes t)
     bound_codes (var v) l k h =
         let ge : ltb (32768 + v) 32768 ≡ false = le-ltb (32768 + v) 32768 (omega arith) in
-        occurs_codes l v k ∙ ap (λ b. b || has (codes l) (32768 + v)) (sym ge) ∙ sym (and_true (ltb (32768 + v) 32768 || has (codes l) (32768 + v)))
+        occurs_codes l v k ∙ ap (λ b. b || has (codes l) (32768 + v)) (sym ge) ∙ sym (and-true (ltb (32768 + v) 32768 || has (codes l) (32768 + v)))
     bound_codes (app f ts) l k h =
         let lt : ltb f 32768 ≡ true = lt-ltb f 32768 (symbol f ts h) in
         bound_codes_all ts l k (args f ts h) ∙ ap (λ b. (b || has (codes l) f) && covers (codes l) (codes_all ts)) (sym lt)

@@ -1,5 +1,7 @@
 // Terms, rules and systems. What they mean stands in specs/, as trees and relations on trees; the calls here work
 // on codes, and their contracts tie the two (specs/Laws.antt).
+#![tactic(auto)]
+
 pub mod malformed;
 pub mod rule;
 pub mod signature;

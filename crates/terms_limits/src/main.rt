@@ -1,4 +1,6 @@
 // Bad signatures, rules, systems and terms, and every limit from both sides: one line a try.
+#![tactic(auto)]
+
 mod shapes;
 mod texts;
 

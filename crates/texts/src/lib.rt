@@ -1,4 +1,6 @@
 // Rule texts and start terms.
+#![tactic(auto)]
+
 mod document;
 pub mod fault;
 pub mod named_system;

@@ -1,5 +1,7 @@
 // Reads texts from standard input, one to a line, and prints what each comes to. A line `rules TEXT` gives a rule text,
 // a line `term TEXT` a start term over the names of the last rule text that was accepted.
+#![tactic(auto)]
+
 mod escapes;
 
 use bounded::ArrayVec;

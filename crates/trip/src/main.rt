@@ -1,5 +1,7 @@
 // Reads a rule text and a start term from the current folder, follows the trip to its normal form and prints a record:
 // rules and symbols, the number of steps, the final term by name. A refusal prints only its line.
+#![tactic(auto)]
+
 mod follow;
 mod opening;
 

@@ -1,4 +1,6 @@
 // The names of a text: what each stands for, and the arities that its uses have fixed.
+#![tactic(auto)]
+
 pub mod flaw;
 pub mod names;
 pub mod vocabulary;

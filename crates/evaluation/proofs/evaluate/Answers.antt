@@ -16,7 +16,7 @@ returns g c =
     let own = c.signature.result.now in
     let same : arities_of own ≡ sig = c.signature.ensures in
     let few : length sig ≤ 32 = subst (λ l. length l ≤ 32) same (few_symbols (arities_of own) own.limited) in
-    let ok : T (is_term sig cs) = held _ (ap (λ l. is_term l cs) (sym same) ∙ sym c.is-term.ensures.value ∙ c.if-not-is-term.false) in
+    let ok : T (is_term sig cs) = held _ (ap (λ l. is_term l cs) (sym same) ∙ sym c.is_term.ensures.value ∙ c.if-not-is_term.false) in
     record {
       value = c.fold.ensures.value;
       means = subst (Evaluates s sig cs (length m)) (sym c.fold.ensures.value) (evaluates s sig cs (length m) few);

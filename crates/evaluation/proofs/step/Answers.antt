@@ -20,8 +20,8 @@ apply-requires g c =
     let count : k ≡ arity sig code = c.arity-count.ensures.value ∙ ap (λ l. arity l code) c.signature.ensures in
     let enough : k ≤ length vs = omega arith in
     record {
-      known = known_inside sig code c.if-code-ge-FIRST-VARIABLE.false c.requires.known;
-      count = ap length c.top.ensures ∙ length-take-le k vs enough ∙ count ∙ arity_symbol sig code c.if-code-ge-FIRST-VARIABLE.false;
+      known = known_inside sig code c.if-code-ge-FIRST_VARIABLE.false c.requires.known;
+      count = ap length c.top.ensures ∙ length-take-le k vs enough ∙ count ∙ arity_symbol sig code c.if-code-ge-FIRST_VARIABLE.false;
       tested = subst (λ l. Every (i.structure self).within l) (sym c.top.ensures) (All-take (λ v. (i.structure self).within v ≡ true) k vs c.requires.tested);
     }
 
@@ -34,7 +34,7 @@ returns-in-Some g c =
     let k = get_or sig code 0 in
     let v = c.in-Some.value in
     let b = c.push-in-Some.result in
-    let low = c.if-code-ge-FIRST-VARIABLE.false in
+    let low = c.if-code-ge-FIRST_VARIABLE.false in
     let count : c.arity-count.result ≡ k = c.arity-count.ensures.value ∙ ap (λ l. arity l code) c.signature.ensures ∙ arity_symbol sig code low in
     let got = c.in-Some.ensures in
     let args = c.top.ensures ∙ ap (λ n. take n vs) count in
@@ -54,15 +54,15 @@ returns-in-Some g c =
           (omega (arith, length-drop k vs, length-drop c.args.waiting.now.at c.args.waiting.now.slots.now));
     }
 
-pub returns-then-code-ge-FIRST-VARIABLE : goal.returns-then-code-ge-FIRST-VARIABLE
-returns-then-code-ge-FIRST-VARIABLE g c =
+pub returns-then-code-ge-FIRST_VARIABLE : goal.returns-then-code-ge-FIRST_VARIABLE
+returns-then-code-ge-FIRST_VARIABLE g c =
     let s = g.I.Interpretation.structure c.args.interpretation.now in
     let sig = g.I.Interpretation.arities c.args.interpretation.now in
     let code = c.args.code in
     let vs = held c.args.waiting.now in
     let v = c.variable.result in
     let b = c.push.result in
-    let new : stepped s sig code vs ≡ v ∷ vs = stepped_variable s sig code vs c.if-code-ge-FIRST-VARIABLE.true ∙ ap (λ x. x ∷ vs) (sym c.variable.ensures.value) in
+    let new : stepped s sig code vs ≡ v ∷ vs = stepped_variable s sig code vs c.if-code-ge-FIRST_VARIABLE.true ∙ ap (λ x. x ∷ vs) (sym c.variable.ensures.value) in
     let done : b ≡ true = c.push.ensures.done ∙ lt-ltb 0 (room c.args.waiting.now) c.requires.room in
     record {
       done = push_done s sig code vs v vs new b done c.variable.ensures.tested;

@@ -19,7 +19,7 @@ returns-in-None g c =
     let sig = (r.meaning p).sig in
     let few = few_in c.signature.result.now sig c.signature.ensures in
     let ok : T (is_rule sig c.args.left.now c.args.right.now) =
-    held _ (ap (λ s. is_rule s c.args.left.now c.args.right.now) (sym c.signature.ensures) ∙ sym c.is-rule.ensures.value ∙ c.if-not-is-rule.false) in
+    held _ (ap (λ s. is_rule s c.args.left.now c.args.right.now) (sym c.signature.ensures) ∙ sym c.is_rule.ensures.value ∙ c.if-not-is_rule.false) in
     no_left (r.columns p) r.entry (r.meaning p) (g.met.P.Reckoning.faithful p) (g.met.P.Reckoning.limited p) few c.args.left.now c.args.right.now (length c.args.memory.now) ok (omega arith)
     c.in-None.ensures.value
 
@@ -30,7 +30,7 @@ returns-in-None-evaluate g c =
     let sig = (r.meaning p).sig in
     let few = few_in c.signature.result.now sig c.signature.ensures in
     let ok : T (is_rule sig c.args.left.now c.args.right.now) =
-    held _ (ap (λ s. is_rule s c.args.left.now c.args.right.now) (sym c.signature.ensures) ∙ sym c.is-rule.ensures.value ∙ c.if-not-is-rule.false) in
+    held _ (ap (λ s. is_rule s c.args.left.now c.args.right.now) (sym c.signature.ensures) ∙ sym c.is_rule.ensures.value ∙ c.if-not-is_rule.false) in
     no_right (r.columns p) r.entry (r.meaning p) (g.met.P.Reckoning.faithful p) (g.met.P.Reckoning.limited p) few c.args.left.now c.args.right.now (length c.args.memory.now) ok (omega arith)
     (c.in-None-evaluate.ensures.value ∙ ap (evaluated (forms (r.columns p)) sig c.args.right.now) c.evaluate.auto.memory)
 
@@ -41,7 +41,7 @@ returns-in-Some-evaluate g c =
     let sig = (r.meaning p).sig in
     let few = few_in c.signature.result.now sig c.signature.ensures in
     let ok : T (is_rule sig c.args.left.now c.args.right.now) =
-    held _ (ap (λ s. is_rule s c.args.left.now c.args.right.now) (sym c.signature.ensures) ∙ sym c.is-rule.ensures.value ∙ c.if-not-is-rule.false) in
+    held _ (ap (λ s. is_rule s c.args.left.now c.args.right.now) (sym c.signature.ensures) ∙ sym c.is_rule.ensures.value ∙ c.if-not-is_rule.false) in
     both_sides (r.columns p) r.entry (r.meaning p) (g.met.P.Reckoning.faithful p) (g.met.P.Reckoning.limited p) few c.args.left.now c.args.right.now (length c.args.memory.now) ok (omega arith)
-    c.in-Some.l c.in-Some-evaluate.r c.compare-forms.result c.in-Some.ensures.value
-    (c.in-Some-evaluate.ensures.value ∙ ap (evaluated (forms (r.columns p)) sig c.args.right.now) c.evaluate.auto.memory) c.compare-forms.ensures
+    c.in-Some.l c.in-Some-evaluate.r c.compare_forms.result c.in-Some.ensures.value
+    (c.in-Some-evaluate.ensures.value ∙ ap (evaluated (forms (r.columns p)) sig c.args.right.now) c.evaluate.auto.memory) c.compare_forms.ensures

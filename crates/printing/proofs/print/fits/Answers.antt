@@ -30,7 +30,7 @@ loop-piece-preserved c =
 
 pub returns : goal.returns
 returns c =
-    let n = ap (λ ws. length (text ws)) c.in-default.ensures in
+    let n = ap (λ ws. length (text ws)) c.in_default.ensures in
     let inv = c.loop-piece.invariant in
     let h : length (text_of (naming_of c.args.names.now) c.args.codes.now) ≤ c.args.room = omega arith in
     sym (le-leb _ _ h)

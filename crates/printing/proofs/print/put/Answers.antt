@@ -7,4 +7,4 @@ returns c =
     let out = c.args.out.now in
     let at = c.args.at in
     let n = length c.args.bytes.now in
-    ap (λ (l : List ℕ). take at out ++ l) (ap₂ (λ (x y : List ℕ). x ++ y) c.copy-from-slice.ensures.after (Post-is at (at + n) out (omega arith)))
+    ap (λ (l : List ℕ). take at out ++ l) (ap₂ (λ (x y : List ℕ). x ++ y) c.copy_from_slice.ensures.after (Post-is at (at + n) out (omega arith)))

@@ -25,5 +25,5 @@ loop-piece-preserved c =
 
 pub returns : goal.returns
 returns c =
-    let done = ap text c.in-default.ensures in
+    let done = ap text c.in_default.ensures in
     record { len = written_length _ _ _ _ _ c.loop-piece.invariant done; after = written_all _ _ _ _ _ c.loop-piece.invariant done }

@@ -9,13 +9,13 @@ pub loop-steps-init : goal.loop-steps-init
 loop-steps-init c = starts c.args.subject.now
 
 pub loop-steps-preserved : goal.loop-steps-preserved
-loop-steps-preserved c = let e = c.in-Stepped.ensures in goes_on c.loop-steps.invariant c.step-on.new.subject e.same e.means
+loop-steps-preserved c = let e = c.in-Stepped.ensures in goes_on c.loop-steps.invariant c.step_on.new.subject e.same e.means
 
 pub returns-in-Normal : goal.returns-in-Normal
-returns-in-Normal c = let e = c.in-Normal.ensures in ends c.loop-steps.invariant c.step-on.new.subject e.same end.Normal e.means.1 e.means.0
+returns-in-Normal c = let e = c.in-Normal.ensures in ends c.loop-steps.invariant c.step_on.new.subject e.same end.Normal e.means.1 e.means.0
 
 pub returns-in-TooLong : goal.returns-in-TooLong
-returns-in-TooLong c = let e = c.in-TooLong.ensures in ends c.loop-steps.invariant c.step-on.new.subject e.same end.TooLong e.means.1 e.means.0
+returns-in-TooLong c = let e = c.in-TooLong.ensures in ends c.loop-steps.invariant c.step_on.new.subject e.same end.TooLong e.means.1 e.means.0
 
 pub returns : goal.returns
 returns c =

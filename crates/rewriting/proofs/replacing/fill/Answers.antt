@@ -5,7 +5,7 @@ use Rattle.terms.proofs.Scans.{within_at}
 use Rattle.rewriting.specs.Filling.{filled}
 use Rattle.rewriting.proofs.Writing.{fill_symbol, fill_variable, grew_on, grew_off, extended}
 use Rattle.rewriting.proofs.replacing.fill.Goals as goal
-use Rattle.rewriting.proofs.replacing.fill.Goals.{then-code-lt-FIRST-VARIABLE+else-not-push, else-code-lt-FIRST-VARIABLE+else-not-extend}
+use Rattle.rewriting.proofs.replacing.fill.Goals.{then-code-lt-FIRST_VARIABLE+else-not-push, else-code-lt-FIRST_VARIABLE+else-not-extend}
 
 pub returns : goal.returns
 returns c =
@@ -27,7 +27,7 @@ returns-then-not-push c =
     let e = c.if-not-push.ensures in
     let old = items c.loop-code.out in
     let new = get_or rs i 0 ∷ [] in
-    grew_off _ old new _ (filled cs bs (drop (i + 1) rs)) (items c.push.new.self) false c.loop-code.invariant (fill_symbol cs bs rs i c.loop-code-test.true c.if-code-lt-FIRST-VARIABLE.true)
+    grew_off _ old new _ (filled cs bs (drop (i + 1) rs)) (items c.push.new.self) false c.loop-code.invariant (fill_symbol cs bs rs i c.loop-code-test.true c.if-code-lt-FIRST_VARIABLE.true)
     (extended false old new (items c.push.new.self) e.fits e.items) refl
 
 pub returns-then-not-extend : goal.returns-then-not-extend
@@ -40,7 +40,7 @@ returns-then-not-extend c =
     let old = items c.loop-code.out in
     let new = c.bound-part.result.now in
     let rest = filled cs bs (drop (i + 1) rs) in
-    let part = fill_variable cs bs rs i c.loop-code-test.true c.if-code-lt-FIRST-VARIABLE.false ∙ ap (λ p. p ++ rest) (sym c.bound-part.ensures) in
+    let part = fill_variable cs bs rs i c.loop-code-test.true c.if-code-lt-FIRST_VARIABLE.false ∙ ap (λ p. p ++ rest) (sym c.bound-part.ensures) in
     grew_off _ old new _ rest (items c.extend.new.self) false c.loop-code.invariant part (extended false old new (items c.extend.new.self) e.fits e.items) refl
 
 pub loop-code-preserved : goal.loop-code-preserved
@@ -50,13 +50,13 @@ loop-code-preserved c =
     let rs = c.args.right.now in
     let i = c.loop-code.code-index in
     let rest = filled cs bs (drop (i + 1) rs) in
-    elim c.if-code-lt-FIRST-VARIABLE.branch [
-      | then-code-lt-FIRST-VARIABLE+else-not-push w ↦ (
+    elim c.if-code-lt-FIRST_VARIABLE.branch [
+      | then-code-lt-FIRST_VARIABLE+else-not-push w ↦ (
           let e = w.if-not-push.ensures in
-          grew_on _ _ _ _ _ _ true c.loop-code.invariant (fill_symbol cs bs rs i c.loop-code-test.true w.if-code-lt-FIRST-VARIABLE.true) (extended true _ _ _ e.fits e.items) refl
+          grew_on _ _ _ _ _ _ true c.loop-code.invariant (fill_symbol cs bs rs i c.loop-code-test.true w.if-code-lt-FIRST_VARIABLE.true) (extended true _ _ _ e.fits e.items) refl
           ∙ ap (λ b. items b ++ rest) (sym w.out-is))
-      | else-code-lt-FIRST-VARIABLE+else-not-extend w ↦ (
+      | else-code-lt-FIRST_VARIABLE+else-not-extend w ↦ (
           let e = w.if-not-extend.ensures in
-          let part = fill_variable cs bs rs i c.loop-code-test.true w.if-code-lt-FIRST-VARIABLE.false ∙ ap (λ p. p ++ rest) (sym w.bound-part.ensures) in
+          let part = fill_variable cs bs rs i c.loop-code-test.true w.if-code-lt-FIRST_VARIABLE.false ∙ ap (λ p. p ++ rest) (sym w.bound-part.ensures) in
           grew_on _ _ _ _ _ _ true c.loop-code.invariant part (extended true _ _ _ e.fits e.items) refl ∙ ap (λ b. items b ++ rest) (sym w.out-is))
     ]

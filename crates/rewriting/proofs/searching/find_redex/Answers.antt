@@ -7,8 +7,8 @@ use Rattle.rewriting.specs.Searching.{rule_from, found, first_from}
 use Rattle.rewriting.proofs.Looks.{first_next}
 use Rattle.rewriting.proofs.searching.find_redex.Goals as goal
 
-pub find-rule-requires : goal.find-rule-requires
-find-rule-requires c =
+pub find_rule-requires : goal.find_rule-requires
+find_rule-requires c =
     let s = c.args.system.now in
     record {
       good = subst₂ (λ x y. T (all_rules x (all_sides y))) (sym c.signature.ensures) (sym c.rules.ensures) s.over;
@@ -21,7 +21,7 @@ returns-in-Some c =
     let s = c.args.system.now in
     let cs = c.args.codes.now in
     let i = c.loop-at.at in
-    let here = sym c.in-Some.is ∙ c.find-rule.ensures ∙ ap₂ (λ x y. rule_from 0 (rules_from x (all_sides y)) (sub_at x cs i)) c.signature.ensures c.rules.ensures in
+    let here = sym c.in-Some.is ∙ c.find_rule.ensures ∙ ap₂ (λ x y. rule_from 0 (rules_from x (all_sides y)) (sub_at x cs i)) c.signature.ensures c.rules.ensures in
     sym (c.loop-at.invariant ∙ first_next (signature_of s) (rules_of s) cs i c.loop-at-test.true
     ∙ ap (λ o. found i o (first_from (signature_of s) (rules_of s) (i + 1) (drop (i + 1) cs))) (sym here))
 
@@ -30,7 +30,7 @@ loop-at-preserved c =
     let s = c.args.system.now in
     let cs = c.args.codes.now in
     let i = c.loop-at.at in
-    let here = sym c.in-default.is ∙ c.find-rule.ensures ∙ ap₂ (λ x y. rule_from 0 (rules_from x (all_sides y)) (sub_at x cs i)) c.signature.ensures c.rules.ensures in
+    let here = sym c.in_default.is ∙ c.find_rule.ensures ∙ ap₂ (λ x y. rule_from 0 (rules_from x (all_sides y)) (sub_at x cs i)) c.signature.ensures c.rules.ensures in
     c.loop-at.invariant ∙ first_next (signature_of s) (rules_of s) cs i c.loop-at-test.true
     ∙ ap (λ o. found i o (first_from (signature_of s) (rules_of s) (i + 1) (drop (i + 1) cs))) (sym here)
 

@@ -15,20 +15,20 @@ step-requires c = c.loop-lexer.invariant.holds
 
 pub returns-in-Err : goal.returns-in-Err
 returns-in-Err c = record {
-  value = stops _ _ _ _ _ _ _ c.loop-lexer.invariant (sym c.is-end.ensures ∙ c.loop-lexer-test.true) _ _ _ c.next-following.ensures.pops c.is-bare.result c.is-bare.ensures c.in-Err.flaw c.in-Err.ensures;
+  value = stops _ _ _ _ _ _ _ c.loop-lexer.invariant (sym c.is_end.ensures ∙ c.loop-lexer-test.true) _ _ _ c.next-following.ensures.pops c.is_bare.result c.is_bare.ensures c.in-Err.flaw c.in-Err.ensures;
   source = refl;
 }
 
 pub loop-lexer-smaller : goal.loop-lexer-smaller
-loop-lexer-smaller c = falls _ _ _ _ _ _ _ c.loop-lexer.invariant (sym c.is-end.ensures ∙ c.loop-lexer-test.true) _ _ _ c.next-following.ensures.pops c.is-bare.result c.is-bare.ensures
+loop-lexer-smaller c = falls _ _ _ _ _ _ _ c.loop-lexer.invariant (sym c.is_end.ensures ∙ c.loop-lexer-test.true) _ _ _ c.next-following.ensures.pops c.is_bare.result c.is_bare.ensures
 
 pub loop-lexer-preserved : goal.loop-lexer-preserved
 loop-lexer-preserved c =
-    moves _ _ _ _ _ _ _ c.loop-lexer.invariant (sym c.is-end.ensures ∙ c.loop-lexer-test.true) _ _ _ c.next-following.ensures.pops c.is-bare.result c.is-bare.ensures _ c.next-following.ensures.end
-    (document_of c.step.new.self) c.in-default.ensures
+    moves _ _ _ _ _ _ _ c.loop-lexer.invariant (sym c.is_end.ensures ∙ c.loop-lexer-test.true) _ _ _ c.next-following.ensures.pops c.is_bare.result c.is_bare.ensures _ c.next-following.ensures.end
+    (document_of c.step.new.self) c.in_default.ensures
 
-pub returns-then-may-end : goal.returns-then-may-end
-returns-then-may-end c = record { value = accepts _ _ _ _ _ _ _ c.loop-lexer.invariant (sym c.is-end.ensures ∙ c.loop-lexer-test.false) (sym c.may-end.ensures ∙ c.if-may-end.true); source = tt }
+pub returns-then-may_end : goal.returns-then-may_end
+returns-then-may_end c = record { value = accepts _ _ _ _ _ _ _ c.loop-lexer.invariant (sym c.is_end.ensures ∙ c.loop-lexer-test.false) (sym c.may_end.ensures ∙ c.if-may_end.true); source = tt }
 
 pub returns : goal.returns
-returns c = record { value = too_early _ _ _ _ _ _ _ c.loop-lexer.invariant (sym c.is-end.ensures ∙ c.loop-lexer-test.false) (sym c.may-end.ensures ∙ c.if-may-end.false); source = refl }
+returns c = record { value = too_early _ _ _ _ _ _ _ c.loop-lexer.invariant (sym c.is_end.ensures ∙ c.loop-lexer-test.false) (sym c.may_end.ensures ∙ c.if-may_end.false); source = refl }

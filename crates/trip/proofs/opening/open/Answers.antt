@@ -9,8 +9,8 @@ use Rattle.trip.proofs.opening.open.Goals as goal
 
 pub unreachable-requires : goal.unreachable-requires
 unreachable-requires c =
-    let text = c.in-ok-text.text in
-    let codes = c.as-slice.result.now in
-    let over : T (is_term (naming_of text.names).signature (items c.in-ok-codes.codes)) = c.in-ok-codes.ensures.term in
-    let same = ap₂ is_term (sym (same_lists (signature_of text.system) _ text.agree)) (sym c.as-slice.ensures) in
+    let text = c.in_ok-text.text in
+    let codes = c.as_slice.result.now in
+    let over : T (is_term (naming_of text.names).signature (items c.in_ok-codes.codes)) = c.in_ok-codes.ensures.term in
+    let same = ap₂ is_term (sym (same_lists (signature_of text.system) _ text.agree)) (sym c.as_slice.ensures) in
     told_err (is_term (signature_of text.system) codes) _ _ _ (subst T same over) c.in-Err.ensures.value

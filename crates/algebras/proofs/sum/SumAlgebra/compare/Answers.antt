@@ -14,6 +14,6 @@ returns g c =
     let signature = c.args.signature.now in
     let l = c.args.left.now in
     let r = c.args.right.now in
-    let o = c.join-orders.result in
-    let v = compared-sum A B a b signature l r c.compare-first.result c.compare-second.result o c.compare-first.ensures.value c.compare-second.ensures.value c.join-orders.ensures in
+    let o = c.join_orders.result in
+    let v = compared-sum A B a b signature l r c.compare-first.result c.compare-second.result o c.compare-first.ensures.value c.compare-second.ensures.value c.join_orders.ensures in
     record { value = v; exactly = compared_law (sum_means A B) (sum_lawful A B a b) signature l r o v }

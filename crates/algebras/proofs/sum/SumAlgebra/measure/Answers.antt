@@ -13,6 +13,6 @@ returns g c =
     let law = sum_lawful A B (g.met.A.Algebra.lawful s.first) (g.met.B.Algebra.lawful s.second) in
     let signature = c.args.signature.now in
     let cs = c.args.codes.now in
-    let r = c.add-heights.result in
-    let v = measured-sum A B (arities_of signature) cs c.measure-first.result c.measure-second.result r c.measure-first.ensures.value c.measure-second.ensures.value c.add-heights.ensures in
+    let r = c.add_heights.result in
+    let v = measured-sum A B (arities_of signature) cs c.measure-first.result c.measure-second.result r c.measure-first.ensures.value c.measure-second.ensures.value c.add_heights.ensures in
     record { value = v; exactly = measured_law (sum_means A B) law signature cs r v }

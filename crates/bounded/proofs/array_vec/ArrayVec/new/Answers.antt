@@ -3,8 +3,8 @@ use lib.ListN.{length-replicate}
 use Rattle.bounded.specs.Items.{items}
 use Rattle.bounded.proofs.array_vec.ArrayVec.new.Goals as goal
 
-pub invariant-of-result : goal.invariant-of-result
-invariant-of-result g c = (length-replicate g.row.N c.args.fill, (omega arith, tt))
+pub invariant_of-result : goal.invariant_of-result
+invariant_of-result g c = record { whole = length-replicate g.row.N c.args.fill; within = omega arith }
 
 pub returns : goal.returns
 unfolding items

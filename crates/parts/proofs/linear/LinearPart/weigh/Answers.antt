@@ -6,14 +6,14 @@ use Rattle.parts.specs.Views.{linear_of}
 use Rattle.parts.specs.Columned.{weighed_more, weighed-done, product_small}
 use Rattle.parts.proofs.linear.LinearPart.weigh.Goals as goal
 
-pub overflow-mul-sum : goal.overflow-mul-sum
-overflow-mul-sum c =
+pub overflow_mul-sum : goal.overflow_mul-sum
+overflow_mul-sum c =
     let at = c.loop-at.at in
     let factor : get_or (get_or c.args.self.now.factors c.args.symbol []) at 0 ≤ 255 = omega arith in
     omega (arith, product_small _ _ factor (All-get_or (λ n. n ≤ reach) c.args.args.now at 0 c.loop-at-test.true c.requires.small))
 
-pub overflow-add-sum : goal.overflow-add-sum
-overflow-add-sum c =
+pub overflow_add-sum : goal.overflow_add-sum
+overflow_add-sum c =
     let at = c.loop-at.at in
     let factor : get_or (get_or c.args.self.now.factors c.args.symbol []) at 0 ≤ 255 = omega arith in
     omega (arith, product_small _ _ factor (All-get_or (λ n. n ≤ reach) c.args.args.now at 0 c.loop-at-test.true c.requires.small))

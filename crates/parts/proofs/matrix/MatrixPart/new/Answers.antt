@@ -6,21 +6,21 @@ use Rattle.parts.specs.Kinds.{matrix_part, positive}
 use Rattle.parts.specs.MakingLemmas.{positive_is, monotone_from, not_monotone}
 use Rattle.parts.proofs.matrix.MatrixPart.new.Goals as goal
 
-pub returns-then-not-is-positive : goal.returns-then-not-is-positive
-returns-then-not-is-positive c =
+pub returns-then-not-is_positive : goal.returns-then-not-is_positive
+returns-then-not-is_positive c =
     let P : Part = matrix_part (arities_of c.args.signature) c.args.dimension c.args.constants c.args.matrices in
-    λ m d. not_monotone P (sym c.if-not-is-positive.true ∙ positive_is P c.is-positive.result c.is-positive.ensures) m
+    λ m d. not_monotone P (sym c.if-not-is_positive.true ∙ positive_is P c.is_positive.result c.is_positive.ensures) m
 
-pub invariant-of-result : goal.invariant-of-result
-invariant-of-result c =
+pub invariant_of-result : goal.invariant_of-result
+invariant_of-result c =
     let P : Part = matrix_part (arities_of c.args.signature) c.args.dimension c.args.constants c.args.matrices in
     let some : 0 < c.args.dimension = omega arith in
-    let is : T (positive P) = held (positive P) (sym (positive_is P c.is-positive.result c.is-positive.ensures) ∙ c.if-not-is-positive.false) in
+    let is : T (positive P) = held (positive P) (sym (positive_is P c.is_positive.result c.is_positive.ensures) ∙ c.if-not-is_positive.false) in
     (some, (omega arith, (is, tt)))
 
 pub returns : goal.returns
 returns c =
     let P : Part = matrix_part (arities_of c.args.signature) c.args.dimension c.args.constants c.args.matrices in
     let some : 0 < c.args.dimension = omega arith in
-    let is : T (positive P) = held (positive P) (sym (positive_is P c.is-positive.result c.is-positive.ensures) ∙ c.if-not-is-positive.false) in
+    let is : T (positive P) = held (positive P) (sym (positive_is P c.is_positive.result c.is_positive.ensures) ∙ c.if-not-is_positive.false) in
     (refl, monotone_from P some is, omega arith)

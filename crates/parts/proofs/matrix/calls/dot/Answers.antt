@@ -4,14 +4,14 @@ use Rattle.interpretations.proofs.Totals.{total_more}
 use Rattle.parts.specs.Columned.{product_small}
 use Rattle.parts.proofs.matrix.calls.dot.Goals as goal
 
-pub overflow-mul-sum : goal.overflow-mul-sum
-overflow-mul-sum c =
+pub overflow_mul-sum : goal.overflow_mul-sum
+overflow_mul-sum c =
     let j = c.loop-j.j in
     let entry : get_or c.args.row.now j 0 ≤ 255 = omega arith in
     omega (arith, product_small _ _ entry (c.requires.small j c.loop-j-test.true))
 
-pub overflow-add-sum : goal.overflow-add-sum
-overflow-add-sum c =
+pub overflow_add-sum : goal.overflow_add-sum
+overflow_add-sum c =
     let j = c.loop-j.j in
     let entry : get_or c.args.row.now j 0 ≤ 255 = omega arith in
     omega (arith, product_small _ _ entry (c.requires.small j c.loop-j-test.true))

@@ -13,13 +13,13 @@ returns-then-self c =
     let ps = reverse (items s.pending) in
     ap (left_by n ps (drop s.pos s.codes.now)) c.requires ∙ shown_end n ps s.codes.now s.pos c.if-self.true
 
-pub returns-in-default : goal.returns-in-default
-returns-in-default c =
+pub returns-in_default : goal.returns-in_default
+returns-in_default c =
     let s = c.args.self.now in
     let n = naming_of s.names.now in
     let ps = reverse (items s.pending) in
     ap (left_by n ps (drop s.pos s.codes.now)) c.requires
-    ∙ shown_none n ps s.codes.now s.pos c.if-self.false _ c.vocabulary.ensures c.in-default.ensures.value
+    ∙ shown_none n ps s.codes.now s.pos c.if-self.false _ c.vocabulary.ensures c.in_default.ensures.value
 
 pub returns-then-arity-eq0 : goal.returns-then-arity-eq0
 returns-then-arity-eq0 c =
@@ -30,8 +30,8 @@ returns-then-arity-eq0 c =
     ∙ shown_leaf n ps s.codes.now s.pos c.if-self.false _ c.vocabulary.ensures (name_bytes c.in-Some.name) c.in-Some.ensures.value _ c.signature.ensures _ c.arity-arity.ensures.value
     c.if-arity-eq0.true
 
-pub invariant-of-self-2 : goal.invariant-of-self-2
-invariant-of-self-2 c =
+pub invariant_of-self-2 : goal.invariant_of-self-2
+invariant_of-self-2 c =
     let s = c.args.self.now in
     let nested = s.nested in
     let short = s.short in

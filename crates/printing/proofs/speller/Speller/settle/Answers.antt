@@ -7,8 +7,8 @@ use Rattle.printing.specs.Spellers.{left_by}
 use Rattle.printing.proofs.Stepping.{followed_last, followed_more, topped, pushed}
 use Rattle.printing.proofs.speller.Speller.settle.Goals as goal
 
-pub invariant-of-self-then-more-le1 : goal.invariant-of-self-then-more-le1
-invariant-of-self-then-more-le1 c =
+pub invariant_of-self-then-more-le1 : goal.invariant_of-self-then-more-le1
+invariant_of-self-then-more-le1 c =
     let s = c.args.self.now in
     let nested = s.nested in
     let popped = (topped (items c.pop.new.self) _ c.in-Some.more c.in-Some.ensures).size in
@@ -24,8 +24,8 @@ returns-then-more-le1 c =
     ∙ followed_last c.in-Some.more (reverse left) (λ qs. shown n qs cs) c.if-more-le1.true
     ∙ ap (λ w. rpar ∷ left_by n (reverse left) cs w) (sym c.requires)
 
-pub invariant-of-self-2 : goal.invariant-of-self-2
-invariant-of-self-2 c =
+pub invariant_of-self-2 : goal.invariant_of-self-2
+invariant_of-self-2 c =
     let s = c.args.self.now in
     let left = items c.pop.new.self in
     let nested = s.nested in

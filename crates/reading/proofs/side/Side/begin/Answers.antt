@@ -3,6 +3,6 @@ use Rattle.vocabulary.specs.Models.{vocabulary_of}
 use Rattle.reading.proofs.Sounds.{symbol_of}
 use Rattle.reading.proofs.side.Side.begin.Goals as goal
 
-pub use-symbol-requires : goal.use-symbol-requires
-use-symbol-requires c =
-    (symbol_of (vocabulary_of c.number.new.vocabulary) (name_bytes c.args.name.now) c.in-ok-code.code c.in-ok-code.ensures.known c.if-code-lt-FIRST-VARIABLE.true).inside
+pub use_symbol-requires : goal.use_symbol-requires
+use_symbol-requires c =
+    (symbol_of (vocabulary_of c.number.new.vocabulary) (name_bytes c.args.name.now) c.in_ok-code.code c.in_ok-code.ensures.known c.if-code-lt-FIRST_VARIABLE.true).inside

@@ -3,16 +3,16 @@ use Rattle.vocabulary.specs.Models.{vocabulary_of}
 use Rattle.reading.proofs.Bracketing.{popped_nested, popped_any, closes}
 use Rattle.reading.proofs.side.Side.close.Goals as goal
 
-pub invariant-of-self-in-Ok : goal.invariant-of-self-in-Ok
-invariant-of-self-in-Ok c = (popped_nested c.args.self.now _ _ c.in-Some.ensures, tt)
+pub invariant_of-self-in-Ok : goal.invariant_of-self-in-Ok
+invariant_of-self-in-Ok c = (popped_nested c.args.self.now _ _ c.in-Some.ensures, tt)
 
 pub returns-in-Ok : goal.returns-in-Ok
 returns-in-Ok c =
     let s = c.args.self.now in
     closes (vocabulary_of c.args.vocabulary.now) (items s.codes) (items s.uses) (items c.pop.new.self) c.in-Some.last c.in-Some.ensures _ c.in-Ok.ensures.value _ c.in-Ok.ensures.after
 
-pub invariant-of-self : goal.invariant-of-self
-invariant-of-self c = (popped_any c.args.self.now c.pop.result _ c.pop.ensures, tt)
+pub invariant_of-self : goal.invariant_of-self
+invariant_of-self c = (popped_any c.args.self.now c.pop.result _ c.pop.ensures, tt)
 
 pub returns-in-Err : goal.returns-in-Err
 returns-in-Err c =

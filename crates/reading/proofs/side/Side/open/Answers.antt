@@ -4,8 +4,8 @@ use Rattle.reading.proofs.Pushes.{pushed-items}
 use Rattle.reading.proofs.Bracketing.{popped_below, replaced_nested, opens}
 use Rattle.reading.proofs.side.Side.open.Goals as goal
 
-pub invariant-of-self-2 : goal.invariant-of-self-2
-invariant-of-self-2 c =
+pub invariant_of-self-2 : goal.invariant_of-self-2
+invariant_of-self-2 c =
     let s = c.args.self.now in
     let was = c.in-Some.ensures in
     let is = pushed-items 1024 _ _ _ _ c.push.ensures.fits c.push.ensures.items (popped_below s _ _ was) in

@@ -7,11 +7,11 @@ use Rattle.rewriting.proofs.Looks.{looks}
 use Rattle.rewriting.proofs.Systems.{few_in, rules_fine}
 use Rattle.rewriting.proofs.subject.Subject.first_redex.Goals as goal
 
-pub find-redex-requires : goal.find-redex-requires
-find-redex-requires c = subst (λ l. T (is_term (signature_of c.args.self.now.system) l)) (sym c.as-slice.ensures) c.args.self.now.over
+pub find_redex-requires : goal.find_redex-requires
+find_redex-requires c = subst (λ l. T (is_term (signature_of c.args.self.now.system) l)) (sym c.as_slice.ensures) c.args.self.now.over
 
 pub returns : goal.returns
 returns c =
     let s = c.args.self.now in
-    let v = c.find-redex.ensures ∙ ap (first_redex (signature_of s.system) (rules_of s.system)) c.as-slice.ensures in
-    record { value = v; means = looks (signature_of s.system) (few_in s.system) (rules_of s.system) (rules_fine s.system) (items s.term) s.over c.find-redex.result v }
+    let v = c.find_redex.ensures ∙ ap (first_redex (signature_of s.system) (rules_of s.system)) c.as_slice.ensures in
+    record { value = v; means = looks (signature_of s.system) (few_in s.system) (rules_of s.system) (rules_fine s.system) (items s.term) s.over c.find_redex.result v }

@@ -11,8 +11,8 @@ returns-then-not-extend c =
     let v : Err malformed.Signature ≡ signature_reply c.args.arities.now = search rules in
     record { value = v; means = signature_law c.args.arities.now (Err malformed.Signature) v }
 
-pub returns-then-not-all-small : goal.returns-then-not-all-small
-returns-then-not-all-small c =
+pub returns-then-not-all_small : goal.returns-then-not-all_small
+returns-then-not-all_small c =
     let v : Err malformed.Signature ≡ signature_reply c.args.arities.now = search rules in
     record { value = v; means = signature_law c.args.arities.now (Err malformed.Signature) v }
 

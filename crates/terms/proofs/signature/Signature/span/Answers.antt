@@ -32,6 +32,6 @@ returns c =
     let inv = c.loop-need.invariant.3 in
     let whole : i - c.args.at ≡ span sig 1 (drop c.args.at cs) = omega arith in
     record {
-      value = whole ∙ sym (ap (λ b. cond b (span sig 1 (drop c.args.at cs)) 0) (le-leb (length cs) 1024 c.if-codes-gt-MOST-TERM.false));
+      value = whole ∙ sym (ap (λ b. cond b (span sig 1 (drop c.args.at cs)) 0) (le-leb (length cs) 1024 c.if-codes-gt-MOST_TERM.false));
       within = c.loop-need.invariant.1;
     }

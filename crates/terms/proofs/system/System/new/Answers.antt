@@ -19,12 +19,12 @@ returns-then-not-extend c =
     let v = too_many (arities_of c.args.signature) c.args.rules.now _ c.new-kept.ensures c.if-not-extend.ensures.fits in
     record { value = v; means = law c.args.signature _ (Err malformed.System) v }
 
-pub returns-then-not-are-rules : goal.returns-then-not-are-rules
-returns-then-not-are-rules c =
-    let v = not_rules (arities_of c.args.signature) c.args.rules.now _ c.new-kept.ensures c.if-not-extend.ensures.fits c.if-not-are-rules.ensures in
+pub returns-then-not-are_rules : goal.returns-then-not-are_rules
+returns-then-not-are_rules c =
+    let v = not_rules (arities_of c.args.signature) c.args.rules.now _ c.new-kept.ensures c.if-not-extend.ensures.fits c.if-not-are_rules.ensures in
     record { value = v; means = law c.args.signature _ (Err malformed.System) v }
 
 pub returns : goal.returns
 returns c =
-    let v = made (arities_of c.args.signature) c.args.rules.now _ c.new-kept.ensures (items c.extend.new.self) c.if-not-extend.ensures.fits c.if-not-extend.ensures.items c.if-not-are-rules.ensures in
+    let v = made (arities_of c.args.signature) c.args.rules.now _ c.new-kept.ensures (items c.extend.new.self) c.if-not-extend.ensures.fits c.if-not-extend.ensures.items c.if-not-are_rules.ensures in
     record { value = v; means = law c.args.signature _ (Ok (record { arities = arities_of c.args.signature; rules = all_sides (items c.extend.new.self) })) v }

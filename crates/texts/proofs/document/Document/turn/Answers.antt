@@ -16,4 +16,4 @@ returns-in-Right c =
     let right = c.kept-right.result in
     let lt = rule-room c.args.role c.in-Right.left c.in-Right.is v before after right s c.requires.room in
     rule_made c.args.role c.in-Right.left c.in-Right.is v before after right s (pushed-items 32 before _ c.push.result after c.push.ensures.fits c.push.ensures.items lt)
-    c.kept-right.ensures (sym c.is-whole.ensures ∙ c.if-not-is-whole.false)
+    c.kept-right.ensures (sym c.is_whole.ensures ∙ c.if-not-is_whole.false)

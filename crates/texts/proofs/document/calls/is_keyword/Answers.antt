@@ -6,4 +6,4 @@ use Rattle.texts.proofs.document.calls.is_keyword.Goals as goal
 use Rattle.std.proofs.lemmas.Bool.Decides.{Decides-eqb}
 
 pub returns : goal.returns
-returns c = same_tested _ _ _ (slice_eq-Decides Decides-eqb _ _ _ c.eq.ensures) ∙ ap₂ bytes_eq c.bytes.ensures c.keyword-of.ensures
+returns c = same_tested _ _ _ (slice_eq-Decides Decides-eqb _ _ _ c.eq.ensures) ∙ ap₂ bytes_eq c.bytes.ensures c.keyword_of.ensures

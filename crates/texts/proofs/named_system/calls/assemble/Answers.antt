@@ -9,15 +9,15 @@ use Rattle.texts.specs.Documents.{rules_of}
 use Rattle.texts.proofs.Assembling.{named_as, same_itself}
 use Rattle.texts.proofs.named_system.calls.assemble.Goals as goal
 
-pub system-from-requires : goal.system-from-requires
-system-from-requires c =
+pub system_from-requires : goal.system_from-requires
+system_from-requires c =
     let d = c.args.document.now in
     let is = named_as (vocabulary_of d.vocabulary) (naming_of c.in-Some.names) c.requires.signature c.in-Some.ensures c.requires.fixed in
     let sig = c.signature.ensures ∙ ap (λ (n : Naming). n.signature) is in
     record {
-      few = (let a = ap length c.as-slice.ensures in let b = items_few d.rules in omega arith);
-      over = subst (λ l. T (all_rules l (rules_of c.as-slice.result.now))) (sym sig) (subst (λ l. T (all_rules c.requires.signature (rules_of l))) (sym c.as-slice.ensures) c.requires.over);
+      few = (let a = ap length c.as_slice.ensures in let b = items_few d.rules in omega arith);
+      over = subst (λ l. T (all_rules l (rules_of c.as_slice.result.now))) (sym sig) (subst (λ l. T (all_rules c.requires.signature (rules_of l))) (sym c.as_slice.ensures) c.requires.over);
     }
 
-pub invariant-of-result : goal.invariant-of-result
-invariant-of-result c = (same_itself _ _ (ap (λ (s : System). s.arities) c.system-from.ensures ∙ c.signature.ensures), tt)
+pub invariant_of-result : goal.invariant_of-result
+invariant_of-result c = (same_itself _ _ (ap (λ (s : System). s.arities) c.system_from.ensures ∙ c.signature.ensures), tt)

@@ -10,17 +10,17 @@ use Rattle.texts.specs.Systems.{Stands, TermCodes}
 use Rattle.texts.proofs.Answering.{stands, term_refused, term_law, term_read}
 use Rattle.texts.proofs.named_system.calls.read_term.Goals as goal
 
-pub returns-in-err-read : goal.returns-in-err-read
-returns-in-err-read c =
+pub returns-in_err-read : goal.returns-in_err-read
+returns-in_err-read c =
     let p = err_from_is_err_and c.from-residual.result c.from-residual.ensures.1 in
-    let e = c.in-err-read.field-0.0 in
+    let e = c.in_err-read.field-0.0 in
     let bytes = c.args.text.now in
     let n = c.args.names.now in
     let v = (naming_of n).vocabulary in
-    let said = c.in-err-read.ensures.value ∙ ap (λ d. outcome d bytes) (c.start-term-document.ensures ∙ ap start_term c.vocabulary.ensures) in
+    let said = c.in_err-read.ensures.value ∙ ap (λ d. outcome d bytes) (c.start_term-document.ensures ∙ ap start_term c.vocabulary.ensures) in
     let is = p.1 ∙ ap Err p.2 in
     record {
-      value = ap (viewed (items {n = 1024})) is ∙ term_refused (start_term v) bytes e said v refl c.in-err-read.ensures.source;
+      value = ap (viewed (items {n = 1024})) is ∙ term_refused (start_term v) bytes e said v refl c.in_err-read.ensures.source;
       means = term_law n bytes;
       stands = subst (Stands (start_term v) bytes) (sym is) (stands (start_term v) bytes e said);
       term = subst (λ r. TermCodes (naming_of n).signature (viewed (items {n = 1024}) r)) (sym is) tt;
@@ -31,6 +31,6 @@ returns c =
     let bytes = c.args.text.now in
     let n = c.args.names.now in
     let d = c.read.new.document in
-    let said = c.in-ok-read.ensures.value ∙ ap (λ d. outcome d bytes) (c.start-term-document.ensures ∙ ap start_term c.vocabulary.ensures) in
+    let said = c.in_ok-read.ensures.value ∙ ap (λ d. outcome d bytes) (c.start_term-document.ensures ∙ ap start_term c.vocabulary.ensures) in
     let t = term_read n bytes (document_of d) d.phase d.side refl said in
     record { value = t.value; means = term_law n bytes; stands = tt; term = t.over }

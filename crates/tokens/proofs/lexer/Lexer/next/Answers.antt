@@ -20,10 +20,10 @@ returns c =
     let text = c.args.self.now.text.now in
     let pos = c.args.self.now.pos in
     let at = c.past-at.result in
-    let end = c.token-at-token.result.1 in
+    let end = c.token_at-token.result.1 in
     let from = c.past-at.ensures.end in
-    let whole = left_blanks text pos at from ∙ left_next text at end c.if-at-self.false (at_stop text pos at from c.if-at-self.false) c.token-at-token.ensures.end in
+    let whole = left_blanks text pos at from ∙ left_next text at end c.if-at-self.false (at_stop text pos at from c.if-at-self.false) c.token_at-token.ensures.end in
     record {
-      pops = subst (Taken (tokens_from text pos) (length text) (tokens_from text end) at) (sym c.token-at-token.ensures.word) whole;
+      pops = subst (Taken (tokens_from text pos) (length text) (tokens_from text end) at) (sym c.token_at-token.ensures.word) whole;
       end = refl;
     }

@@ -6,8 +6,8 @@ use Rattle.tokens.specs.Tokens.{is_arrow, mark, name_or_long, token, extra}
 use Rattle.tokens.proofs.Lexes.{run_letters}
 use Rattle.tokens.proofs.lexer.calls.token_at.Goals as goal
 
-pub name-token-requires : goal.name-token-requires
-name-token-requires c =
+pub name_token-requires : goal.name_token-requires
+name_token-requires c =
     let text = c.args.text.now in
     let at = c.args.at in
     let b = get_or text at 0 in
@@ -17,38 +17,38 @@ name-token-requires c =
     let cut : take (c.past-end.result - at) (drop at text) ≡ b ∷ take (run letter bs) bs = ap (λ k. take k (drop at text)) n ∙ ap (take (suc (run letter bs))) (drop_more text at 0 c.requires) in
     record {
       some = (let l = ap length cut in omega arith);
-      pure = subst (λ b. T b) (sym (ap all_letters cut ∙ and_from _ _ (sym c.if-is-letter.ensures) (run_letters bs))) tt;
+      pure = subst (λ b. T b) (sym (ap all_letters cut ∙ and_from _ _ (sym c.if-is_letter.ensures) (run_letters bs))) tt;
     }
 
-pub returns-then-is-letter : goal.returns-then-is-letter
-returns-then-is-letter c =
+pub returns-then-is_letter : goal.returns-then-is_letter
+returns-then-is_letter c =
     let text = c.args.text.now in
     let at = c.args.at in
     let b = get_or text at 0 in
     let bs = drop (at + 1) text in
-    let is : letter b ≡ true = sym c.if-is-letter.ensures in
+    let is : letter b ≡ true = sym c.if-is_letter.ensures in
     let end = c.past-end.ensures.end in
     let n : c.past-end.result - at ≡ suc (run letter bs) = omega arith in
     let cut : take (c.past-end.result - at) (drop at text) ≡ b ∷ take (run letter bs) bs = ap (λ k. take k (drop at text)) n ∙ ap (take (suc (run letter bs))) (drop_more text at 0 c.requires) in
     record {
-      word = c.name-token.ensures ∙ ap (λ l. Some (name_or_long l)) cut ∙ ap Some (sym (cond-true (letter b) _ _ is));
+      word = c.name_token.ensures ∙ ap (λ l. Some (name_or_long l)) cut ∙ ap Some (sym (cond-true (letter b) _ _ is));
       end = end ∙ ap (λ k. at + 1 + k) (sym (cond-true (letter b) _ _ is));
       within = c.past-end.ensures.within;
     }
 
-pub returns-then-is-arrow-at : goal.returns-then-is-arrow-at
-returns-then-is-arrow-at c =
+pub returns-then-is_arrow_at : goal.returns-then-is_arrow_at
+returns-then-is_arrow_at c =
     let text = c.args.text.now in
     let at = c.args.at in
     let b = get_or text at 0 in
     let bs = drop (at + 1) text in
-    let no : letter b ≡ false = sym c.if-is-letter.ensures in
-    let is : is_arrow b bs ≡ true = sym c.if-is-arrow-at.ensures.is in
+    let no : letter b ≡ false = sym c.if-is_letter.ensures in
+    let is : is_arrow b bs ≡ true = sym c.if-is_arrow_at.ensures.is in
     let e : extra b bs ≡ 1 = cond-false (letter b) _ _ no ∙ cond-true (is_arrow b bs) _ _ is in
     record {
       word = ap Some (sym (cond-false (letter b) _ _ no ∙ cond-true (is_arrow b bs) _ _ is));
       end = omega arith;
-      within = c.if-is-arrow-at.ensures.fits refl;
+      within = c.if-is_arrow_at.ensures.fits refl;
     }
 
 pub returns : goal.returns
@@ -57,11 +57,11 @@ returns c =
     let at = c.args.at in
     let b = get_or text at 0 in
     let bs = drop (at + 1) text in
-    let no : letter b ≡ false = sym c.if-is-letter.ensures in
-    let is : is_arrow b bs ≡ false = sym c.if-is-arrow-at.ensures.is in
+    let no : letter b ≡ false = sym c.if-is_letter.ensures in
+    let is : is_arrow b bs ≡ false = sym c.if-is_arrow_at.ensures.is in
     let e : extra b bs ≡ 0 = cond-false (letter b) _ _ no ∙ cond-false (is_arrow b bs) _ _ is in
     record {
-      word = c.mark-token.ensures ∙ ap Some (sym (cond-false (letter b) _ _ no ∙ cond-false (is_arrow b bs) _ _ is));
+      word = c.mark_token.ensures ∙ ap Some (sym (cond-false (letter b) _ _ no ∙ cond-false (is_arrow b bs) _ _ is));
       end = omega arith;
       within = omega arith;
     }

@@ -15,18 +15,18 @@ returns-then-not-push c =
     let e = sym (cond-true _ _ _ full) in
     record { value = e; after = refl; keeps = declare_keeps v (name_bytes c.args.name.now) _ e v refl }
 
-pub returns-then-is-some : goal.returns-then-is-some
-returns-then-is-some c =
+pub returns-then-is_some : goal.returns-then-is_some
+returns-then-is_some c =
     let v = vocabulary_of c.args.self.now in
     let fits = room_is 8 (items c.args.self.now.variables) c.args.name.now true c.if-not-push.ensures.fits in
-    let known = ap is_some (sym c.code-of.ensures.value) ∙ sym c.if-is-some.ensures in
+    let known = ap is_some (sym c.code_of.ensures.value) ∙ sym c.if-is_some.ensures in
     let e = sym (cond-false _ _ _ fits ∙ cond-true _ _ _ known) in
     record { value = e; after = refl; keeps = declare_keeps v (name_bytes c.args.name.now) _ e v refl }
 
-pub invariant-of-self : goal.invariant-of-self
-invariant-of-self c =
+pub invariant_of-self : goal.invariant_of-self
+invariant_of-self c =
     let v = c.args.self.now in
-    let new = ap is_some (sym c.code-of.ensures.value) ∙ sym c.if-is-some.ensures in
+    let new = ap is_some (sym c.code_of.ensures.value) ∙ sym c.if-is_some.ensures in
     let e = grown-variables v (items c.push.new.self) c.args.name.now c.if-not-push.ensures.items in
     let s = subst Consistent (sym e) (consistent_variable (vocabulary_of v) (name_bytes c.args.name.now) (is_none _ new) (consistent v)) in
     (s.even, (s.small, (s.symbols_apart, (s.variables_apart, tt))))
@@ -36,7 +36,7 @@ returns c =
     let v = c.args.self.now in
     let n = name_bytes c.args.name.now in
     let fits = room_is 8 (items v.variables) c.args.name.now true c.if-not-push.ensures.fits in
-    let new = ap is_some (sym c.code-of.ensures.value) ∙ sym c.if-is-some.ensures in
+    let new = ap is_some (sym c.code_of.ensures.value) ∙ sym c.if-is_some.ensures in
     let e = sym (cond-false _ _ _ fits ∙ cond-false _ _ _ new) in
     let w = grown-variables v (items c.push.new.self) c.args.name.now c.if-not-push.ensures.items in
     record { value = e; after = w; keeps = declare_keeps (vocabulary_of v) n _ e _ w }

@@ -11,12 +11,12 @@ pub returns-then-code-lt32768 : goal.returns-then-code-lt32768
 returns-then-code-lt32768 c =
     let s = c.args.self.now in
     let few = few_symbols s in
-    let v = c.entry.ensures ∙ ap (λ l. entry (names l) c.args.code) c.as-slice.ensures ∙ sym (cond-true _ _ _ (lt-ltb _ _ c.if-code-lt32768.true)) in
+    let v = c.entry.ensures ∙ ap (λ l. entry (names l) c.args.code) c.as_slice.ensures ∙ sym (cond-true _ _ _ (lt-ltb _ _ c.if-code-lt32768.true)) in
     record { value = v; means = name_exactly (vocabulary_of s) (omega arith) c.args.code _ v }
 
 pub returns-else-code-lt32768 : goal.returns-else-code-lt32768
 returns-else-code-lt32768 c =
     let s = c.args.self.now in
     let few = few_symbols s in
-    let v = c.entry-else-code-lt32768.ensures ∙ ap (λ l. entry (names l) (c.args.code - 32768)) c.as-slice-else-code-lt32768.ensures ∙ sym (cond-false _ _ _ (le-ltb _ _ c.if-code-lt32768.false)) in
+    let v = c.entry-else-code-lt32768.ensures ∙ ap (λ l. entry (names l) (c.args.code - 32768)) c.as_slice-else-code-lt32768.ensures ∙ sym (cond-false _ _ _ (le-ltb _ _ c.if-code-lt32768.false)) in
     record { value = v; means = name_exactly (vocabulary_of s) (omega arith) c.args.code _ v }

@@ -14,17 +14,17 @@ returns-then-not-push c =
     let v = vocabulary_of c.args.self.now in
     let n = name_bytes c.args.name.now in
     let full = room_is 32 (items c.args.self.now.symbols) c.args.name.now false c.if-not-push.ensures.fits in
-    let p = numbered-at v n None c.in-default.ensures.value in
+    let p = numbered-at v n None c.in_default.ensures.value in
     let w = sym (cond-true _ _ _ full) ∙ p.1 in
     record { value = sym (cond-true _ _ _ full) ∙ p.0; after = w; keeps = number_keeps v n v w }
 
-pub invariant-of-self : goal.invariant-of-self
-invariant-of-self c =
+pub invariant_of-self : goal.invariant_of-self
+invariant_of-self c =
     let v = c.args.self.now in
     let fits = room_is 32 (items v.symbols) c.args.name.now true c.if-not-push.ensures.fits in
     let os = arities_grow v _ c.push-2.ensures.fits _ c.push-2.ensures.items (leb-false 32 _ fits) in
     let e = grown_symbols v (items c.push.new.self) c.args.name.now c.if-not-push.ensures.items _ os in
-    let s = subst Consistent (sym e) (consistent_symbol (vocabulary_of v) (name_bytes c.args.name.now) (sym c.in-default.ensures.value) (consistent v)) in
+    let s = subst Consistent (sym e) (consistent_symbol (vocabulary_of v) (name_bytes c.args.name.now) (sym c.in_default.ensures.value) (consistent v)) in
     (s.even, (s.small, (s.symbols_apart, (s.variables_apart, tt))))
 
 pub returns : goal.returns
@@ -34,6 +34,6 @@ returns c =
     let fits = room_is 32 (items v.symbols) c.args.name.now true c.if-not-push.ensures.fits in
     let os = arities_grow v _ c.push-2.ensures.fits _ c.push-2.ensures.items (leb-false 32 _ fits) in
     let e = grown_symbols v (items c.push.new.self) c.args.name.now c.if-not-push.ensures.items _ os in
-    let p = numbered-at (vocabulary_of v) n None c.in-default.ensures.value in
+    let p = numbered-at (vocabulary_of v) n None c.in_default.ensures.value in
     let w = e ∙ sym (cond-false _ _ _ fits) ∙ p.1 in
-    record { value = ap Ok (ap length c.as-slice-next.ensures ∙ sym (names-length (items v.symbols))) ∙ sym (cond-false _ _ _ fits) ∙ p.0; after = w; keeps = number_keeps (vocabulary_of v) n _ w }
+    record { value = ap Ok (ap length c.as_slice-next.ensures ∙ sym (names-length (items v.symbols))) ∙ sym (cond-false _ _ _ fits) ∙ p.0; after = w; keeps = number_keeps (vocabulary_of v) n _ w }

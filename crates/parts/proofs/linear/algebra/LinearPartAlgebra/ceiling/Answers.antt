@@ -14,5 +14,5 @@ returns c =
     let n = c.args.size in
     let A = part_means (linear_of p) (linear_ceiling (linear_of p)) in
     let sized = ap₂ (λ a b. cond (a && b) (ceiling_told (linear_ceiling (linear_of p) n)) (Err fault.SizeOutOfRange)) (le-leb 1 n (omega arith)) (le-leb n 1024 (omega arith)) in
-    let v = c.tell-ceiling.ensures ∙ ap ceiling_told c.ceiling-at.ensures ∙ sym sized in
-    record { value = v; exactly = ceiling_law A (linear_lawful p) n c.tell-ceiling.result v }
+    let v = c.tell_ceiling.ensures ∙ ap ceiling_told c.ceiling_at.ensures ∙ sym sized in
+    record { value = v; exactly = ceiling_law A (linear_lawful p) n c.tell_ceiling.result v }
