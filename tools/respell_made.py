@@ -51,7 +51,7 @@ def main():
                         return word
                     for w, pattern in idents:
                         word = pattern.sub(w, word)
-                    return word.replace("in-ok-", "in_ok-").replace("in-err-", "in_err-").replace("in-default", "in_default")
+                    return word.replace("in-ok-", "in_ok-").replace("in-err-", "in_err-").replace("in-default", "in_default").replace("from-residual", "from_residual")
 
                 new = TOKEN.sub(by, text)
                 for a, b in [("overflow-", "overflow_"), ("offset-bounds-", "offset_bounds-"), ("slice-bounds-", "slice_bounds-"), ("invariant-of-", "invariant_of-")]:

@@ -39,12 +39,12 @@ returns-in_err-step_into c =
     let at = c.args.place in
     let e = by_rule s n at c.rules-rules.ensures c.if-rule-rules.false c.as_slice-codes.ensures c.if-place-codes.false c.signature.ensures c.index-rules-rule.result c.index-rules-rule.is in
     let x = c.in_err-step_into.field-0.0 in
-    let p = err_from_is_err_and c.from-residual.result c.from-residual.ensures.1 in
-    let r : c.from-residual.result ≡ Err x = p.1 ∙ ap fault_of p.2 in
+    let p = err_from_is_err_and c.from_residual.result c.from_residual.ensures.1 in
+    let r : c.from_residual.result ≡ Err x = p.1 ∙ ap fault_of p.2 in
     let reply : Err x ≡ answer (rewritten (arities_in s) (rules_in s) (codes_in s) n at) = c.in_err-step_into.ensures.reply ∙ ap answer e in
     let v = r ∙ reply in
     let a = refused_codes (rewritten (arities_in s) (rules_in s) (codes_in s) n at) (codes_in s) x reply in
-    record { value = v; after = a; same = refl; means = law s n at c.from-residual.result (codes_in s) v a }
+    record { value = v; after = a; same = refl; means = law s n at c.from_residual.result (codes_in s) v a }
 
 pub invariant_of-self-2 : goal.invariant_of-self-2
 invariant_of-self-2 c =
@@ -54,7 +54,7 @@ invariant_of-self-2 c =
     let e = by_rule s n at c.rules-rules.ensures c.if-rule-rules.false c.as_slice-codes.ensures c.if-place-codes.false c.signature.ensures c.index-rules-rule.result c.index-rules-rule.is in
     let out = items c.step_into.new.out in
     let a = made_codes _ (codes_in s) out (c.in_ok-step_into.ensures.reply ∙ ap answer e) (subst (λ x. Written x out) e c.in_ok-step_into.ensures.next) in
-    (term_after s n at out a, tt)
+    record { over = term_after s n at out a }
 
 pub returns : goal.returns
 returns c =

@@ -20,7 +20,7 @@ turn-requires c = record {
 pub returns-in_err-step : goal.returns-in_err-step
 returns-in_err-step c =
     let d = c.args.self.now in
-    let p = err_from_is_err_and c.from-residual.result c.from-residual.ensures.1 in
+    let p = err_from_is_err_and c.from_residual.result c.from_residual.ensures.1 in
     ap (λ r. moved r (document_of (record { vocabulary = c.step.new.vocabulary; rules = d.rules; side = c.step.new.self; phase = d.phase }))) (p.1 ∙ ap Err p.2)
     ∙ continues (role_of c.args.role) (vocabulary_of d.vocabulary) (state_of d.side) (word_of c.args.token.now) c.args.bare c.requires.0 (rules_of (items d.rules)) (stop c.in_err-step.field-0.0) c.in_err-step.ensures
 

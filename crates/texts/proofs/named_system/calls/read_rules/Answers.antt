@@ -11,7 +11,7 @@ use Rattle.texts.proofs.named_system.calls.read_rules.Goals as goal
 
 pub returns-in_err-read : goal.returns-in_err-read
 returns-in_err-read c =
-    let p = err_from_is_err_and c.from-residual.result c.from-residual.ensures.1 in
+    let p = err_from_is_err_and c.from_residual.result c.from_residual.ensures.1 in
     let e = c.in_err-read.field-0.0 in
     let bytes = c.args.text.now in
     let said = c.in_err-read.ensures.value ∙ ap (λ d. outcome d bytes) c.rule_text-document.ensures in

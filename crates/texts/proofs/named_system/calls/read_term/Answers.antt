@@ -12,7 +12,7 @@ use Rattle.texts.proofs.named_system.calls.read_term.Goals as goal
 
 pub returns-in_err-read : goal.returns-in_err-read
 returns-in_err-read c =
-    let p = err_from_is_err_and c.from-residual.result c.from-residual.ensures.1 in
+    let p = err_from_is_err_and c.from_residual.result c.from_residual.ensures.1 in
     let e = c.in_err-read.field-0.0 in
     let bytes = c.args.text.now in
     let n = c.args.names.now in
