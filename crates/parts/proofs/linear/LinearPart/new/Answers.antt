@@ -15,7 +15,7 @@ pub invariant_of-result : goal.invariant_of-result
 invariant_of-result c =
     let P : Part = linear_part (arities_of c.args.signature) c.args.constants c.args.factors in
     let is : T (positive P) = held (positive P) (sym (positive_is P c.is_positive.result c.is_positive.ensures) ∙ c.if-not-is_positive.false) in
-    (is, tt)
+    record { tops = is }
 
 pub returns : goal.returns
 returns c =

@@ -16,7 +16,7 @@ invariant_of-result c =
     let P : Part = matrix_part (arities_of c.args.signature) c.args.dimension c.args.constants c.args.matrices in
     let some : 0 < c.args.dimension = omega arith in
     let is : T (positive P) = held (positive P) (sym (positive_is P c.is_positive.result c.is_positive.ensures) ∙ c.if-not-is_positive.false) in
-    (some, (omega arith, (is, tt)))
+    record { some = some; narrow = omega arith; tops = is }
 
 pub returns : goal.returns
 returns c =

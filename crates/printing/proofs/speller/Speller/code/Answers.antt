@@ -38,7 +38,7 @@ invariant_of-self-2 c =
     let inside = c.if-self.false in
     let t = pushed 1024 (items s.pending) (items c.push.new.self) c.arity-arity.result _ (omega arith) c.push.ensures.fits c.push.ensures.items in
     let size = t.size in
-    (short, (omega arith, (omega arith, tt)))
+    record { short = short; within = omega arith; nested = omega arith }
 
 pub returns : goal.returns
 returns c =

@@ -12,7 +12,7 @@ invariant_of-self-then-more-le1 c =
     let s = c.args.self.now in
     let nested = s.nested in
     let popped = (topped (items c.pop.new.self) _ c.in-Some.more c.in-Some.ensures).size in
-    (s.short, (s.within, (omega arith, tt)))
+    record { short = s.short; within = s.within; nested = omega arith }
 
 pub returns-then-more-le1 : goal.returns-then-more-le1
 returns-then-more-le1 c =
@@ -33,7 +33,7 @@ invariant_of-self-2 c =
     let within = s.within in
     let popped = (topped left _ c.in-Some.more c.in-Some.ensures).size in
     let again = (pushed 1024 left (items c.push.new.self) (c.in-Some.more - 1) _ (omega arith) c.push.ensures.fits c.push.ensures.items).size in
-    (short, (within, (omega arith, tt)))
+    record { short = short; within = within; nested = omega arith }
 
 pub returns : goal.returns
 returns c =

@@ -11,7 +11,7 @@ invariant_of-self c =
     let room = below (role_of c.args.role.now) (state_of s) (sym c.if-is_full.ensures) in
     let n = longer _ _ _ (pushed-items 1024 (items s.codes) c.args.code _ _ c.push.ensures.fits c.push.ensures.items room) in
     let k = s.nested in
-    (omega arith, tt)
+    record { nested = omega arith }
 
 pub invariant_of-self-then-code-lt-FIRST_VARIABLE : goal.invariant_of-self-then-code-lt-FIRST_VARIABLE
 invariant_of-self-then-code-lt-FIRST_VARIABLE c =
@@ -20,7 +20,7 @@ invariant_of-self-then-code-lt-FIRST_VARIABLE c =
     let n = longer _ _ _ (pushed-items 1024 (items s.codes) c.args.code _ _ c.push.ensures.fits c.push.ensures.items room) in
     let k = s.nested in
     let m = longer _ _ _ (pushed-items 1024 (items s.uses) _ _ _ c.push-then-code-lt-FIRST_VARIABLE.ensures.fits c.push-then-code-lt-FIRST_VARIABLE.ensures.items (omega arith)) in
-    (omega arith, tt)
+    record { nested = omega arith }
 
 pub invariant_of-self-else-code-lt-FIRST_VARIABLE : goal.invariant_of-self-else-code-lt-FIRST_VARIABLE
 invariant_of-self-else-code-lt-FIRST_VARIABLE c =
@@ -28,7 +28,7 @@ invariant_of-self-else-code-lt-FIRST_VARIABLE c =
     let room = below (role_of c.args.role.now) (state_of s) (sym c.if-is_full.ensures) in
     let n = longer _ _ _ (pushed-items 1024 (items s.codes) c.args.code _ _ c.push.ensures.fits c.push.ensures.items room) in
     let k = s.nested in
-    (omega arith, tt)
+    record { nested = omega arith }
 
 pub returns-then-bare : goal.returns-then-bare
 returns-then-bare c = λ v.

@@ -5,7 +5,7 @@ use Rattle.reading.proofs.Bracketing.{popped_below, popped_nested, replaced_nest
 use Rattle.reading.proofs.side.Side.comma.Goals as goal
 
 pub invariant_of-self-then-last-ge-MOST_ARGUMENTS : goal.invariant_of-self-then-last-ge-MOST_ARGUMENTS
-invariant_of-self-then-last-ge-MOST_ARGUMENTS c = (popped_nested c.args.self.now _ _ c.in-Some.ensures, tt)
+invariant_of-self-then-last-ge-MOST_ARGUMENTS c = record { nested = popped_nested c.args.self.now _ _ c.in-Some.ensures }
 
 pub returns-then-last-ge-MOST_ARGUMENTS : goal.returns-then-last-ge-MOST_ARGUMENTS
 returns-then-last-ge-MOST_ARGUMENTS c = λ v.
@@ -17,7 +17,7 @@ invariant_of-self-2 c =
     let s = c.args.self.now in
     let was = c.in-Some.ensures in
     let is = pushed-items 1024 _ _ _ _ c.push.ensures.fits c.push.ensures.items (popped_below s _ _ was) in
-    (replaced_nested s _ _ _ _ was is, tt)
+    record { nested = replaced_nested s _ _ _ _ was is }
 
 pub returns : goal.returns
 returns c = λ v.

@@ -9,7 +9,7 @@ invariant_of-self-2 c =
     let s = c.args.self.now in
     let was = c.in-Some.ensures in
     let is = pushed-items 1024 _ _ _ _ c.push.ensures.fits c.push.ensures.items (popped_below s _ _ was) in
-    (replaced_nested s _ _ _ _ was is, tt)
+    record { nested = replaced_nested s _ _ _ _ was is }
 
 pub returns : goal.returns
 returns c = λ v.

@@ -20,4 +20,4 @@ system_from-requires c =
     }
 
 pub invariant_of-result : goal.invariant_of-result
-invariant_of-result c = (same_itself _ _ (ap (λ (s : System). s.arities) c.system_from.ensures ∙ c.signature.ensures), tt)
+invariant_of-result c = record { agree = same_itself _ _ (ap (λ (s : System). s.arities) c.system_from.ensures ∙ c.signature.ensures) }

@@ -16,7 +16,7 @@ invariant_of-result c =
     let v = c.args.vocabulary in
     let told : fixed_arities (items v.arities) ≡ Some (items c.in_ok-numbers.numbers) = sym (c.in_ok-numbers.ensures ∙ ap fixed_arities c.arities.ensures) in
     let is = told_ok (is_signature c.as_slice.result.now) c.as_slice.result.now (arities_of c.in-Ok.signature) _ c.in-Ok.ensures.value ∙ c.as_slice.ensures in
-    (told_fixed (items v.arities) (arities_of c.in-Ok.signature) (told ∙ ap Some (sym is)), tt)
+    record { fixed = told_fixed (items v.arities) (arities_of c.in-Ok.signature) (told ∙ ap Some (sym is)) }
 
 pub unreachable-requires : goal.unreachable-requires
 unreachable-requires c =

@@ -29,7 +29,7 @@ invariant_of-self c =
     let new = ap is_some (sym c.code_of.ensures.value) ∙ sym c.if-is_some.ensures in
     let e = grown-variables v (items c.push.new.self) c.args.name.now c.if-not-push.ensures.items in
     let s = subst Consistent (sym e) (consistent_variable (vocabulary_of v) (name_bytes c.args.name.now) (is_none _ new) (consistent v)) in
-    (s.even, (s.small, (s.symbols_apart, (s.variables_apart, tt))))
+    record { even = s.even; small = s.small; symbols_apart = s.symbols_apart; variables_apart = s.variables_apart }
 
 pub returns : goal.returns
 returns c =

@@ -25,7 +25,7 @@ invariant_of-self c =
     let os = arities_grow v _ c.push-2.ensures.fits _ c.push-2.ensures.items (leb-false 32 _ fits) in
     let e = grown_symbols v (items c.push.new.self) c.args.name.now c.if-not-push.ensures.items _ os in
     let s = subst Consistent (sym e) (consistent_symbol (vocabulary_of v) (name_bytes c.args.name.now) (sym c.in_default.ensures.value) (consistent v)) in
-    (s.even, (s.small, (s.symbols_apart, (s.variables_apart, tt))))
+    record { even = s.even; small = s.small; symbols_apart = s.symbols_apart; variables_apart = s.variables_apart }
 
 pub returns : goal.returns
 returns c =

@@ -48,7 +48,7 @@ invariant_of-self c =
     let v = c.args.self.now in
     let e = fixed_arities v (items c.set.new.self) c.args.symbol c.args.count c.set.ensures.items in
     let s = subst Consistent (sym e) (consistent_arity (vocabulary_of v) c.args.symbol c.args.count (sym c.in_default.ensures) c.if-count-gt4.false (consistent v)) in
-    (s.even, (s.small, (s.symbols_apart, (s.variables_apart, tt))))
+    record { even = s.even; small = s.small; symbols_apart = s.symbols_apart; variables_apart = s.variables_apart }
 
 pub returns : goal.returns
 returns c =
