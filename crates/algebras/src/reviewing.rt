@@ -55,7 +55,7 @@ fn review_rules<A: Algebra>(
     signature: &Signature,
     rules: &[Rule],
 ) -> Result<(), ReviewFault>
-    ensures { result ≡ rules_reply (means algebra.now) (arities_of signature.now) 0 (all_sides rules.now) }
+    ensures { result ≡ rules_reply (A.means algebra.now) (arities_of signature.now) 0 (all_sides rules.now) }
 {
     for number in 0..rules.len() {
         let rule = &rules[number];
@@ -67,8 +67,8 @@ fn review_rules<A: Algebra>(
 
 // Passes if every rule is strict: then every derivation from a term is no longer than the term's height.
 pub fn review<A: Algebra>(algebra: &A, system: &System) -> Result<(), ReviewFault>
-    ensures value { result ≡ review_reply (means algebra.now) (signature_of system.now) (all_sides (listed_rules system.now)) }
-    ensures exactly { Reviewed (means algebra.now) (signature_of system.now) (rules_of system.now) result }
+    ensures value { result ≡ review_reply (A.means algebra.now) (signature_of system.now) (all_sides (listed_rules system.now)) }
+    ensures exactly { Reviewed (A.means algebra.now) (signature_of system.now) (rules_of system.now) result }
 {
     let signature = system.signature();
     if !algebra.fits(signature) {

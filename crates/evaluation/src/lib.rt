@@ -19,17 +19,17 @@ use terms::FIRST_VARIABLE;
 // Reads one code: its value takes the place of its arguments' values. False if it is out of the bound, and then
 // nothing changes.
 fn step<I: Interpretation>(interpretation: &I, code: u16, waiting: &mut Stack<I::Value>) -> bool
-    requires known { T (known (arities interpretation.now) code) }
-    requires enough { arity (arities interpretation.now) code ≤ length (held waiting.old) }
-    requires tested { Every (structure interpretation.now).within (held waiting.old) }
+    requires known { T (known (I.arities interpretation.now) code) }
+    requires enough { arity (I.arities interpretation.now) code ≤ length (held waiting.old) }
+    requires tested { Every (I.structure interpretation.now).within (held waiting.old) }
     requires room { 0 < room waiting.old }
     requires sound { Sound waiting.old }
-    ensures done { result ≡ (structure interpretation.now).within (applied (structure interpretation.now) (arities interpretation.now) code (held waiting.old)) }
-    ensures after { held waiting.new ≡ (if result then stepped (structure interpretation.now) (arities interpretation.now) code (held waiting.old) else held waiting.old) }
+    ensures done { result ≡ (I.structure interpretation.now).within (applied (I.structure interpretation.now) (I.arities interpretation.now) code (held waiting.old)) }
+    ensures after { held waiting.new ≡ (if result then stepped (I.structure interpretation.now) (I.arities interpretation.now) code (held waiting.old) else held waiting.old) }
     ensures room { room waiting.old ≤ room waiting.new + 1 }
     ensures sound { Sound waiting.new }
     ensures lender { waiting.new.slots.ghost_name ≡ waiting.old.slots.ghost_name }
-    ensures memory { waiting.new.slots.now ≡ (if result then stored waiting.old.slots.now (stepped (structure interpretation.now) (arities interpretation.now) code (held waiting.old)) else waiting.old.slots.now) }
+    ensures memory { waiting.new.slots.now ≡ (if result then stored waiting.old.slots.now (stepped (I.structure interpretation.now) (I.arities interpretation.now) code (held waiting.old)) else waiting.old.slots.now) }
 {
     if code >= FIRST_VARIABLE {
         return waiting.push(interpretation.variable((code - FIRST_VARIABLE) as usize));
@@ -50,10 +50,10 @@ fn fold<I: Interpretation>(
     codes: &[u16],
     memory: &mut [I::Value],
 ) -> Option<I::Value>
-    requires term { T (is_term (arities interpretation.now) codes.now) }
+    requires term { T (is_term (I.arities interpretation.now) codes.now) }
     requires room { length codes.now ≤ length memory.old }
-    ensures value { result ≡ evaluated (structure interpretation.now) (arities interpretation.now) codes.now (length memory.old) }
-    ensures memory { memory.new ≡ filled (structure interpretation.now) (arities interpretation.now) codes.now memory.old }
+    ensures value { result ≡ evaluated (I.structure interpretation.now) (I.arities interpretation.now) codes.now (length memory.old) }
+    ensures memory { memory.new ≡ filled (I.structure interpretation.now) (I.arities interpretation.now) codes.now memory.old }
 {
     let mut waiting = Stack::over(memory);
     for at in (0..codes.len()).rev() {
@@ -72,9 +72,9 @@ pub fn evaluate<I: Interpretation>(
     codes: &[u16],
     memory: &mut [I::Value],
 ) -> Option<I::Value>
-    ensures value { result ≡ evaluated (structure interpretation.now) (arities interpretation.now) codes.now (length memory.old) }
-    ensures means { Evaluates (structure interpretation.now) (arities interpretation.now) codes.now (length memory.old) result }
-    ensures memory { memory.new ≡ remembered (structure interpretation.now) (arities interpretation.now) codes.now memory.old }
+    ensures value { result ≡ evaluated (I.structure interpretation.now) (I.arities interpretation.now) codes.now (length memory.old) }
+    ensures means { Evaluates (I.structure interpretation.now) (I.arities interpretation.now) codes.now (length memory.old) result }
+    ensures memory { memory.new ≡ remembered (I.structure interpretation.now) (I.arities interpretation.now) codes.now memory.old }
 {
     if !interpretation.signature().is_term(codes) {
         return None;
