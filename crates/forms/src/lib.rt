@@ -24,7 +24,7 @@ pub struct Comparison {
 
 // Whether no entry of the right form is greater than the left form's.
 fn form_covers<P: Reckoning>(part: &P, left: &[P::Vector; 33], right: &[P::Vector; 33]) -> bool
-    ensures { result ≡ every width (λ k. covers (meaning part.now) (entry (slice_index_or left.now k (columns part.now).zero)) (entry (slice_index_or right.now k (columns part.now).zero))) }
+    ensures { result ≡ every width (λ k. covers (P.meaning part.now) (P.entry (slice_index_or left.now k (P.columns part.now).zero)) (P.entry (slice_index_or right.now k (P.columns part.now).zero))) }
 {
     for k in 0..33 {
         if !part.covers(left[k], right[k]) {
@@ -39,7 +39,7 @@ fn compare_forms<P: Reckoning>(
     left: &[P::Vector; 33],
     right: &[P::Vector; 33],
 ) -> Comparison
-    ensures { result ≡ forms_cover (meaning part.now) entry (columns part.now).zero left.now right.now }
+    ensures { result ≡ forms_cover (P.meaning part.now) P.entry (P.columns part.now).zero left.now right.now }
 {
     if !form_covers(part, left, right) {
         return Comparison {
@@ -53,7 +53,7 @@ fn compare_forms<P: Reckoning>(
 
 // The height of the term that the codes are, in memory with a place for each.
 pub fn height<P: Reckoning>(part: &P, codes: &[u16], memory: &mut [P::Vector]) -> Option<u64>
-    ensures { result ≡ height_reply (meaning part.now) codes.now (length memory.old) }
+    ensures { result ≡ height_reply (P.meaning part.now) codes.now (length memory.old) }
 {
     let heights = Heights { part };
     match evaluate(&heights, codes, memory) {
@@ -69,7 +69,7 @@ pub fn compare<P: Reckoning>(
     right: &[u16],
     memory: &mut [[P::Vector; 33]],
 ) -> Option<Comparison>
-    ensures { result ≡ compare_reply (meaning part.now) left.now right.now (length memory.old) }
+    ensures { result ≡ compare_reply (P.meaning part.now) left.now right.now (length memory.old) }
 {
     if !part.signature().is_rule(left, right) {
         return None;

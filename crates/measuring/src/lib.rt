@@ -28,7 +28,7 @@ fn same(a: &[u8], b: &[u8]) -> bool
 
 // Whether it is the signature that the part interprets.
 pub fn interprets<P: Reckoning>(part: &P, signature: &Signature) -> bool
-    ensures { result ≡ same_list (arities_of signature.now) (meaning part.now).sig }
+    ensures { result ≡ same_list (arities_of signature.now) (P.meaning part.now).sig }
 {
     same(signature.arities(), part.signature().arities())
 }
@@ -41,7 +41,7 @@ pub fn measure<P: Reckoning>(
     memory: &mut [P::Vector],
 ) -> Result<u64, AlgebraFault>
     requires { 1024 ≤ length memory.old }
-    ensures { result ≡ measured (part_means (meaning part.now) no_ceiling) (arities_of signature.now) codes.now }
+    ensures { result ≡ measured (part_means (P.meaning part.now) no_ceiling) (arities_of signature.now) codes.now }
 {
     if !interprets(part, signature) {
         return Err(AlgebraFault::Unfit);
@@ -76,7 +76,7 @@ pub fn compare<P: Reckoning>(
     memory: &mut [[P::Vector; 33]],
 ) -> Result<Order, AlgebraFault>
     requires { 32 ≤ length memory.old }
-    ensures { result ≡ compared (part_means (meaning part.now) no_ceiling) (arities_of signature.now) left.now right.now }
+    ensures { result ≡ compared (part_means (P.meaning part.now) no_ceiling) (arities_of signature.now) left.now right.now }
 {
     if !interprets(part, signature) {
         return Err(AlgebraFault::Unfit);
