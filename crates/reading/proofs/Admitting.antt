@@ -1,12 +1,12 @@
 -- One more code.
-use Rattle.std.proofs.Common.{◌≡◌, ℕ, ◌+◌, ◌<◌, ◌≤◌, Bool, true, false, cond, ltb, List, [], ◌∷◌, ◌++◌, reverse, length, sym, refl, ap, ◌∙◌, ap₂, arith}
+use Rattle.std.proofs.Common.{◌≡◌, ℕ, ◌<◌, ◌≤◌, Bool, true, false, List, [], ◌∷◌, ◌++◌, reverse, sym, ap, ◌∙◌, ap₂}
 use Rattle.std.proofs.lemmas.List.{reverse-append}
 use Rattle.std.proofs.lemmas.Bool.{cond-true, cond-false, lt-ltb, le-ltb}
 use Rattle.vocabulary.specs.Vocabularies.{Vocabulary}
 use Rattle.reading.specs.declared.state.Use.{Use}
 use Rattle.reading.specs.declared.state.Await.{Await}
 use Rattle.reading.specs.declared.state.Await.TheVariants.{Bracket, NoBracket, After}
-use Rattle.reading.specs.Sides.{Role, limit, State, Reply, Reply.go, is_full, entered, admitted}
+use Rattle.reading.specs.Sides.{Role, State, Reply.go, is_full, entered, admitted}
 
 abbrev pub at : List ℕ → List Use → Await → State
 at cs us a = record { codes = cs; uses = us; awaits = a }

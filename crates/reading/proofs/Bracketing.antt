@@ -1,19 +1,18 @@
 -- Brackets and commas: what happens to the innermost use.
-use Rattle.std.proofs.Common.{◌≡◌, ℕ, ◌+◌, ◌<◌, ◌≤◌, Bool, true, false, cond, List, [], ◌∷◌, ◌++◌, reverse, length, Some, None, Ok, Err, Option, Result, sym, refl, ap, ◌∙◌, subst, ap₂, arith}
+use Rattle.std.proofs.Common.{◌≡◌, ℕ, ◌+◌, ◌<◌, ◌≤◌, List, [], ◌∷◌, ◌++◌, reverse, length, Some, None, Option, Result, sym, ap, ◌∙◌, ap₂, arith}
 use Rattle.std.proofs.lemmas.Bool.{cond-true, cond-false, lt-ltb, le-ltb}
 use Rattle.vocabulary.specs.declared.flaw.Flaw.{Flaw}
 use Rattle.vocabulary.specs.declared.flaw.Flaw.TheVariants.{Arguments}
-use Rattle.vocabulary.specs.Vocabularies.{Vocabulary, arity_of, with_arity}
+use Rattle.vocabulary.specs.Vocabularies.{Vocabulary}
 use Rattle.vocabulary.specs.Replies.{settle_reply, settled}
 use Rattle.bounded.specs.Items.{items, Popped}
 use Rattle.bounded.proofs.Lengths.{items_few}
 use Rattle.reading.specs.declared.state.Use.{Use}
-use Rattle.reading.specs.declared.state.Await.{Await}
 use Rattle.reading.specs.declared.state.Await.TheVariants.{Term, After}
-use Rattle.reading.specs.Sides.{State, Reply, Reply.go, Reply.stop, at_open, at_comma}
+use Rattle.reading.specs.Sides.{Reply.go, Reply.stop, at_open, at_comma}
 use Rattle.reading.specs.declared.side.Side.{Side}
-use Rattle.reading.specs.Models.{state_of, reply_of, close_use}
-use Rattle.reading.proofs.Pushes.{longer, pushed-items}
+use Rattle.reading.specs.Models.{reply_of, close_use}
+use Rattle.reading.proofs.Pushes.{longer}
 use Rattle.reading.proofs.Admitting.{at, reverse_pushed}
 
 -- with the innermost use taken off, there is room for one

@@ -1,5 +1,5 @@
 -- Names whose arities are all fixed: a term over them is one over the signature that they make.
-use Rattle.std.proofs.Common.{◌≡◌, ℕ, zero, suc, ◌+◌, ◌<◌, ◌≤◌, Bool, true, false, cond, ◌&&◌, T, eqb, ltb, List, [], ◌∷◌, ◌++◌, length, get_or, is_some, Some, None, Option, sym, refl, ap, ◌∙◌, subst, ap₂, arith, eqb→eq, ltb→lt, lt→ltb}
+use Rattle.std.proofs.Common.{◌≡◌, ℕ, zero, suc, ◌<◌, ◌≤◌, Bool, true, false, ◌&&◌, T, eqb, ltb, List, [], ◌∷◌, length, get_or, is_some, Some, None, Option, sym, refl, ap, ◌∙◌, subst, ap₂, arith, eqb→eq, ltb→lt, lt→ltb}
 use Rattle.std.specs.Option.{option_map}
 use Rattle.tokens.specs.Tokens.{Word}
 use Rattle.terms.specs.Limits.{most_symbols, variables}
@@ -8,7 +8,7 @@ use Rattle.terms.specs.Terms as signed
 use Rattle.terms.specs.Shapes.{is_rule, starts_with_symbol, covers}
 use Rattle.terms.specs.Codes.{is_term}
 use Rattle.terms.specs.Models.{Sides, all_rules}
-use Rattle.terms.proofs.Booleans.{both, fst_of, snd_of, held, holds, clash}
+use Rattle.terms.proofs.Booleans.{both, fst_of, snd_of, held, clash}
 use Rattle.terms.proofs.Exactly.{is_term_of, is_rule_of}
 use Rattle.terms.proofs.RuleCodes.{headed_codes, bound_codes}
 use Rattle.terms.proofs.Places.{length_codes}
@@ -16,9 +16,9 @@ use Rattle.vocabulary.specs.declared.names.Names.{Names}
 use Rattle.vocabulary.specs.Vocabularies.{Vocabulary, arity_of, is_number, Consistent, fixed_arities}
 use Rattle.vocabulary.specs.Naming.{Naming, naming_of}
 use Rattle.vocabulary.proofs.Calls.{consistent, few_symbols, few_variables}
-use Rattle.vocabulary.proofs.Fixing.{somes, fixed_as, somes-length, told_somes}
+use Rattle.vocabulary.proofs.Fixing.{somes, fixed_as, somes-length}
 use Rattle.reading.specs.Spelling.{over, over_all}
-use Rattle.reading.specs.Sides.{Role, Role.left, Role.right, Role.start}
+use Rattle.reading.specs.Sides.{Role.left, Role.right, Role.start}
 use Rattle.reading.specs.Laws.{Settled, Spells}
 use Rattle.reading.specs.Grammar.{RulesSpelled, RulesSpelled.no_rules, RulesSpelled.one_more}
 

@@ -1,22 +1,19 @@
 -- A term that is spelled is read: forwards, token by token, towards the vocabulary that the text ends with.
-use Rattle.std.proofs.Common.{◌≡◌, ℕ, zero, suc, ◌+◌, ◌-◌, ◌<◌, ◌≤◌, Bool, true, false, cond, not, ◌&&◌, ◌||◌, T, eqb, ltb, leb, ◌⊎◌, List, [], ◌∷◌, ◌++◌, length, get_or, set, is_some, Some, None, Option, sym, refl, ap, ◌∙◌, subst, ap₂, inl, inr, append_assoc, append-nil, arith, eqb→eq, ltb→lt, length-append}
-use Rattle.std.proofs.lemmas.List.{get_or_append_left, get_or-append_right, get_or_past, get_or-set_same, get_or-set_other, set_past}
-use Rattle.std.proofs.lemmas.Bool.{lt-ltb, le-ltb, lt-leb, eq-eqb, cond-true, cond-false, cases_eq, cases_lt, and_parts, or_cases}
+use Rattle.std.proofs.Common.{◌≡◌, ℕ, zero, suc, ◌+◌, ◌-◌, ◌<◌, ◌≤◌, Bool, true, false, cond, ◌&&◌, T, ltb, ◌⊎◌, List, [], ◌∷◌, ◌++◌, length, get_or, set, is_some, Some, None, Option, sym, refl, ap, ◌∙◌, subst, ap₂, inl, inr, append_assoc, append-nil, arith, eqb→eq, ltb→lt, length-append}
+use Rattle.std.proofs.lemmas.List.{get_or_append_left, get_or-append_right, get_or-set_same, get_or-set_other, set_past}
+use Rattle.std.proofs.lemmas.Bool.{lt-ltb, le-ltb, lt-leb, eq-eqb, cond-true, cond-false, cases_eq, cases_lt}
 use Rattle.tokens.specs.Tokens.{Word, Word.lpar, Word.rpar, Word.comma, Word.arrow, Word.named, Word.long, Word.illegal}
 use Rattle.terms.specs.Terms.{Term, Terms, Term.var, Term.app, Terms.none, Terms.more, count, codes, codes_all}
-use Rattle.terms.specs.Shapes.{has, covers}
 use Rattle.terms.proofs.Booleans.{fst_of, snd_of, clash}
-use Rattle.terms.proofs.RuleCodes.{covers-append}
-use Rattle.vocabulary.specs.declared.flaw.Flaw.TheVariants.{Misplaced, TooMany, Arguments, AbsentVariable, TooLong}
 use Rattle.reading.specs.declared.state.Use.{Use}
 use Rattle.reading.specs.declared.state.Await.{Await}
-use Rattle.reading.specs.declared.state.Await.TheVariants.{Term as WantsTerm, Bracket, NoBracket, After}
+use Rattle.reading.specs.declared.state.Await.TheVariants.{Term as WantsTerm, Bracket, After}
 use Rattle.vocabulary.specs.Vocabularies.{Vocabulary, is_number, found, var_or, code_of, arity_of, with_symbol, with_arity}
-use Rattle.reading.specs.Spelling.{over, over_all, words, arguments, others, numbered}
+use Rattle.reading.specs.Spelling.{over, over_all, words, others, numbered}
 use Rattle.vocabulary.specs.Growth.{Grows}
-use Rattle.reading.specs.Sides.{Role, Role.left, Role.right, Role.start, limit, State, Reply, Reply.go, Reply.stop, pushed, opened, entered, is_full, admitted, settled, use_symbol, is_absent, use_variable, use_new, use_code, at_close, at_comma, step, Flagged, Reads, Reads.ended, Reads.next}
+use Rattle.reading.specs.Sides.{Role, Role.left, Role.right, Role.start, limit, State, Reply, Reply.go, entered, admitted, settled, use_symbol, use_variable, use_new, use_code, step, Flagged, Reads, Reads.ended, Reads.next}
 use Rattle.reading.specs.Flags.{bare_words, flagged}
-use Rattle.vocabulary.proofs.Founds.{found_is, found_new, found_more}
+use Rattle.vocabulary.proofs.Founds.{found_new, found_more}
 use Rattle.vocabulary.proofs.Growing.{same_code}
 use Rattle.reading.proofs.Gaining.{Allows}
 use Rattle.reading.specs.Laws.{Fine}

@@ -1,5 +1,5 @@
 -- What holds of a text goes on to hold.
-use Rattle.std.proofs.Common.{◌≡◌, ℕ, ◌<◌, ◌≤◌, Bool, true, false, cond, leb, List, [], ◌∷◌, ◌++◌, length, is_some, sym, refl, ap, ◌∙◌, subst, arith}
+use Rattle.std.proofs.Common.{◌≡◌, ℕ, ◌≤◌, Bool, true, false, cond, leb, List, [], length, is_some, refl, subst, arith}
 use Rattle.std.specs.Str.{bytes_eq}
 use Rattle.std.proofs.lemmas.Bool.{leb-false}
 use Rattle.tokens.specs.Tokens.{Word, Word.lpar, Word.rpar, Word.comma, Word.arrow, Word.named, Word.long, Word.illegal}
@@ -13,9 +13,9 @@ use Rattle.reading.specs.declared.state.Block.{Block}
 use Rattle.reading.specs.declared.state.Block.TheVariants.{Variables, Rules}
 use Rattle.reading.specs.Sides.{Role, Role.left, Role.right, Role.start, limit, State, Reply, Reply.go, Reply.stop, is_open, step, fresh, is_whole}
 use Rattle.reading.specs.Fits.{Fit}
-use Rattle.reading.specs.Documents.{Phase, Phase.bracket, Phase.keyword, Phase.variable, Phase.rule, Phase.arrow_behind, Phase.inside, Phase.closed, Phase.ended, Document, Move, Move.to, Move.flawed, document, word_for, behind_keyword, behind, turned, continued, term_move, move_by, move, rule_text, start_term}
+use Rattle.reading.specs.Documents.{Phase, Phase.bracket, Phase.keyword, Phase.variable, Phase.rule, Phase.arrow_behind, Phase.inside, Phase.closed, Phase.ended, Document, Move.to, Move.flawed, document, word_for, behind_keyword, behind, turned, continued, term_move, move_by, move, rule_text, start_term}
 use Rattle.reading.specs.Holding.{Room, Held, Holds}
-use Rattle.reading.proofs.Sounds.{Back, back}
+use Rattle.reading.proofs.Sounds.{back}
 
 ¬to : {X : Type 0} {d : Document} {f : Flaw} → flawed f ≡ to d → X
 ¬to e = clash (cc)

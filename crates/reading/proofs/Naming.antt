@@ -1,11 +1,11 @@
 -- Names where a term begins.
-use Rattle.std.proofs.Common.{◌≡◌, ℕ, ◌+◌, ◌<◌, ◌≤◌, Bool, true, false, cond, ltb, leb, List, [], ◌∷◌, ◌++◌, length, Some, None, Ok, Err, Option, Result, sym, refl, ap, ◌∙◌, subst, ap₂, arith}
-use Rattle.std.proofs.lemmas.Bool.{cond-true, cond-false, lt-ltb, leb-false}
+use Rattle.std.proofs.Common.{◌≡◌, ℕ, Bool, true, false, cond, leb, List, length, Some, None, Ok, Err, Option, Result, sym, refl, ◌∙◌, subst, ap₂, arith}
+use Rattle.std.proofs.lemmas.Bool.{cond-true, lt-ltb, leb-false}
 use Rattle.vocabulary.specs.declared.flaw.Flaw.{Flaw}
 use Rattle.vocabulary.specs.declared.flaw.Flaw.TheVariants.{TooMany}
 use Rattle.vocabulary.specs.Vocabularies.{Vocabulary, code_of, with_symbol}
 use Rattle.vocabulary.specs.Replies.{number_by, number_reply, numbered_by, numbered}
-use Rattle.reading.specs.Sides.{Role, Role.left, Role.right, Role.start, State, Reply, Reply.go, Reply.stop, use_symbol, use_new, use_code}
+use Rattle.reading.specs.Sides.{State, Reply.stop, use_symbol, use_new, use_code}
 use Rattle.reading.proofs.Sounds.{new_code}
 use Rattle.reading.specs.declared.role.Role as kept
 use Rattle.reading.specs.declared.role.Role.TheVariants as roles

@@ -1,6 +1,6 @@
 -- What pushing onto the codes and the uses comes to.
-use Rattle.std.proofs.Common.{◌≡◌, ℕ, zero, suc, ◌+◌, ◌<◌, ◌≤◌, Bool, true, false, cond, ltb, leb, List, [], ◌∷◌, ◌++◌, reverse, length, sym, refl, ap, ◌∙◌, ap₂, arith, length-append}
-use Rattle.std.proofs.lemmas.Bool.{cond-true, cond-false, le-leb, leb-false, lt-ltb, le-ltb}
+use Rattle.std.proofs.Common.{◌≡◌, ℕ, ◌+◌, ◌<◌, ◌≤◌, Bool, false, List, [], ◌∷◌, ◌++◌, length, ap, ◌∙◌, arith, length-append}
+use Rattle.std.proofs.lemmas.Bool.{cond-true, le-leb, leb-false}
 use Rattle.bounded.specs.Items.{room, grown}
 use Rattle.reading.specs.Sides.{Role, Role.left, Role.right, Role.start, limit, State, is_full}
 

@@ -1,21 +1,21 @@
 -- What is read spells a term: backwards, token by token, under the vocabulary that the text ends with.
-use Rattle.std.proofs.Common.{◌≡◌, ℕ, zero, suc, ◌+◌, ◌-◌, ◌<◌, ◌≤◌, Bool, true, false, cond, ◌&&◌, T, eqb, ltb, leb, ◌⊎◌, List, [], ◌∷◌, ◌++◌, map, length, get_or, Some, None, Option, sym, refl, ap, ◌∙◌, subst, ap₂, inl, inr, append_assoc, append-nil, arith, lt→ltb, length-append}
+use Rattle.std.proofs.Common.{◌≡◌, ℕ, ◌+◌, ◌<◌, ◌≤◌, Bool, true, false, cond, T, eqb, ltb, leb, List, [], ◌∷◌, ◌++◌, map, length, Some, None, Option, sym, refl, ap, ◌∙◌, subst, ap₂, inl, inr, append_assoc, arith, lt→ltb, length-append}
 use lib.Dec.{eqb_refl}
-use Rattle.std.proofs.lemmas.Bool.{ltb-true, ltb-false, leb-false, eqb-true, cases_lt, cond-true, cond-false, lt-ltb, le-ltb}
+use Rattle.std.proofs.lemmas.Bool.{ltb-true, ltb-false, leb-false, eqb-true, cond-true, cond-false, lt-ltb, le-ltb}
 use Rattle.tokens.specs.Tokens.{Word, Word.lpar, Word.rpar, Word.comma, Word.arrow, Word.named, Word.long, Word.illegal}
 use Rattle.terms.specs.Terms.{Term, Terms, Term.var, Term.app, Terms.none, Terms.more, count, codes, codes_all}
-use Rattle.terms.proofs.Booleans.{both, clash, held}
+use Rattle.terms.proofs.Booleans.{both, clash}
 use Rattle.vocabulary.specs.declared.flaw.Flaw.{Flaw}
-use Rattle.vocabulary.specs.declared.flaw.Flaw.TheVariants.{Misplaced, LongName, TooMany, Arguments, AbsentVariable, TooLong, UnknownName}
+use Rattle.vocabulary.specs.declared.flaw.Flaw.TheVariants.{TooMany, Arguments, AbsentVariable, TooLong}
 use Rattle.reading.specs.declared.state.Use.{Use}
 use Rattle.reading.specs.declared.state.Await.{Await}
 use Rattle.reading.specs.declared.state.Await.TheVariants.{Term as WantsTerm, Bracket, NoBracket, After}
 use Rattle.vocabulary.specs.Vocabularies.{Vocabulary, is_number, found, var_or, code_of, arity_of, with_symbol, with_arity}
-use Rattle.reading.specs.Spelling.{over, over_all, words, arguments, others}
+use Rattle.reading.specs.Spelling.{over, over_all, words, others}
 use Rattle.vocabulary.specs.Growth.{Grows}
-use Rattle.reading.specs.Sides.{Role, Role.left, Role.right, Role.start, limit, State, Reply, Reply.go, Reply.stop, is_open, pushed, opened, entered, is_full, admitted, settled, use_symbol, is_absent, use_variable, use_new, use_code, at_open, at_comma, at_close, step_by, step, fresh, whole, is_whole, Flagged, Reads, Reads.ended, Reads.next}
+use Rattle.reading.specs.Sides.{Role, Role.left, Role.right, Role.start, limit, State, Reply.go, Reply.stop, pushed, opened, entered, is_full, admitted, settled, use_symbol, is_absent, use_variable, use_new, use_code, at_open, at_comma, at_close, step_by, step, Flagged, Reads, Reads.ended, Reads.next}
 use Rattle.vocabulary.proofs.Founds.{IsVariable, IsSymbol, code_is, found_new}
-use Rattle.vocabulary.proofs.Growing.{grows_trans, grows_arity, same_code, Even, even_symbol, even_arity, fixed_now}
+use Rattle.vocabulary.proofs.Growing.{grows_trans, grows_arity, same_code, even_symbol, even_arity, fixed_now}
 use Rattle.reading.specs.Laws.{Fine}
 use Rattle.reading.specs.Fits.{Known, Fit}
 use Rattle.reading.proofs.Bound.{fine_join, fine_symbol, fine_variable}

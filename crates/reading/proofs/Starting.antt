@@ -1,14 +1,14 @@
 -- Start terms: read exactly if spelled.
-use Rattle.std.proofs.Common.{◌≡◌, ℕ, zero, suc, ◌+◌, ◌<◌, ◌≤◌, Bool, true, false, cond, ◌&&◌, T, ltb, List, [], ◌∷◌, ◌++◌, length, get_or, is_some, Some, None, Option, sym, refl, ap, ◌∙◌, subst, ap₂, append_assoc, append-nil, arith, ltb→lt}
-use Rattle.tokens.specs.Tokens.{Word, Word.lpar, Word.rpar, Word.comma, Word.named}
-use Rattle.terms.specs.Terms.{Term, Terms, Term.var, Term.app, Terms.none, Terms.more, count, codes}
+use Rattle.std.proofs.Common.{◌≡◌, ℕ, suc, ◌+◌, ◌<◌, true, cond, ◌&&◌, T, ltb, List, [], ◌∷◌, ◌++◌, length, get_or, is_some, Some, None, Option, sym, refl, ap, ◌∙◌, subst, ap₂, append_assoc, arith, ltb→lt}
+use Rattle.tokens.specs.Tokens.{Word, Word.named}
+use Rattle.terms.specs.Terms.{Term, Terms, Term.var, Term.app, Terms.none, Terms.more, count}
 use Rattle.terms.proofs.Booleans.{fst_of, snd_of, clash}
 use Rattle.vocabulary.specs.Vocabularies.{Vocabulary, found, var_or, code_of, arity_of, is_number, Consistent}
 use Rattle.vocabulary.specs.Growth.{Grows}
 use Rattle.vocabulary.proofs.Growing.{grows_refl, Even}
 use Rattle.vocabulary.proofs.Consistency.{coded_at}
 use Rattle.reading.specs.Spelling.{over, over_all, words, arguments, others, numbered}
-use Rattle.reading.specs.Sides.{Role, Role.start}
+use Rattle.reading.specs.Sides.{Role.start}
 use Rattle.reading.specs.Laws.{Spells, Read, Settled, StartExactly}
 use Rattle.reading.proofs.Completes.{Ahead}
 use Rattle.reading.proofs.Whole.{whole_sound, whole_complete}

@@ -1,23 +1,23 @@
 -- A whole term: what is read spells it, and what spells it is read.
-use Rattle.std.proofs.Common.{◌≡◌, ℕ, zero, suc, ◌+◌, ◌<◌, ◌≤◌, Bool, true, false, T, List, [], ◌∷◌, ◌++◌, map, length, get_or, Some, None, sym, refl, ap, ◌∙◌, subst, ap₂, append-nil, arith}
+use Rattle.std.proofs.Common.{◌≡◌, ℕ, ◌+◌, ◌<◌, ◌≤◌, true, List, [], ◌∷◌, ◌++◌, map, length, Some, sym, refl, ap, ◌∙◌, subst, append-nil, arith}
 use Rattle.tokens.specs.Tokens.{Word}
-use Rattle.terms.specs.Terms.{Term, codes}
+use Rattle.terms.specs.Terms.{codes}
 use Rattle.terms.proofs.Booleans.{clash}
-use Rattle.vocabulary.specs.Vocabularies.{Vocabulary, code_of, arity_of, Consistent}
+use Rattle.vocabulary.specs.Vocabularies.{Vocabulary, Consistent}
 use Rattle.vocabulary.specs.Growth.{Grows}
 use Rattle.vocabulary.proofs.Growing.{Even}
 use Rattle.vocabulary.proofs.Consistency.{coded_at, small_at}
 use Rattle.reading.specs.declared.state.Use.{Use}
 use Rattle.reading.specs.declared.state.Await.{Await}
 use Rattle.reading.specs.declared.state.Await.TheVariants.{Term as WantsTerm, Bracket, NoBracket, After}
-use Rattle.reading.specs.Spelling.{over, words}
-use Rattle.reading.specs.Sides.{Role, limit, State, fresh, whole, is_whole, Flagged, Reads}
+use Rattle.reading.specs.Spelling.{words}
+use Rattle.reading.specs.Sides.{Role, limit, fresh, whole, Flagged, Reads}
 use Rattle.reading.specs.Flags.{bare_words, flagged}
 use Rattle.reading.specs.Laws.{Fine, Spells, Read}
 use Rattle.reading.proofs.Bound.{fine_none}
 use Rattle.reading.proofs.Gaining.{Allows, Adds}
 use Rattle.reading.proofs.Sounds.{Sound, Says, sounded}
-use Rattle.reading.proofs.Completes.{Ahead, Goes, complete}
+use Rattle.reading.proofs.Completes.{Ahead, complete}
 
 unflagged : (ws after : List Word) → map (λ (f : Flagged). f.word) (flagged ws after) ≡ ws
 unflagged [] after = refl

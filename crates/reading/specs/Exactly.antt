@@ -9,7 +9,7 @@ use Rattle.reading.specs.Sides.{Role.start}
 use Rattle.reading.specs.Laws.{Spells, Settled}
 use Rattle.reading.specs.Grammar.{TextSpelled}
 use Rattle.reading.specs.Documents.{Document, document, Phase.closed, Phase.ended, rule_text, start_term}
-use Rattle.reading.specs.Outcomes.{Outcome, Outcome.accepted, Outcome.refused, outcome, spell}
+use Rattle.reading.specs.Outcomes.{Outcome.accepted, Outcome.refused, outcome, spell}
 
 -- a rule text is accepted exactly if its tokens spell a system, and as that system
 pub record TextExactly (bytes : List ℕ) : Type 0 where

@@ -1,5 +1,5 @@
 -- What holds of a text while it is read.
-use Rattle.std.specs.Prelude.{◌≡◌, ℕ, ◌<◌, ◌≤◌, List, length}
+use Rattle.std.specs.Prelude.{◌≡◌, ◌<◌, ◌≤◌, List, length}
 use Rattle.terms.specs.Limits.{most_side, most_rules}
 use Rattle.terms.specs.Models.{Sides}
 use Rattle.vocabulary.specs.Vocabularies.{Vocabulary}

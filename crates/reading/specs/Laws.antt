@@ -1,5 +1,5 @@
 -- What is read, in the words of terms.
-use Rattle.std.specs.Prelude.{◌≡◌, ℕ, ◌<◌, ◌≤◌, Bool, true, T, List, [], ◌++◌, length, is_some}
+use Rattle.std.specs.Prelude.{◌≡◌, ℕ, ◌<◌, ◌≤◌, true, T, List, [], length, is_some}
 use Rattle.tokens.specs.Tokens.{Word}
 use Rattle.terms.specs.Terms.{Term, codes}
 use Rattle.terms.specs.Shapes.{covers}

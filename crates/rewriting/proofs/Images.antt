@@ -1,8 +1,8 @@
 -- The test for a match says that there is one.
-use Rattle.std.proofs.Common.{◌≡◌, ℕ, zero, suc, ◌+◌, ◌-◌, ◌<◌, ◌≤◌, Bool, true, false, cond, ◌&&◌, ◌||◌, T, eqb, ◌⊎◌, List, [], ◌∷◌, ◌++◌, sym, refl, ap, ◌∙◌, subst, ap₂, inl, inr, arith, eqb→eq}
+use Rattle.std.proofs.Common.{◌≡◌, ℕ, Bool, true, false, cond, ◌||◌, T, eqb, sym, refl, ap, ◌∙◌, subst, ap₂, inl, inr, eqb→eq}
 use lib.Dec.{eqb_refl}
-use Rattle.std.proofs.lemmas.Bool.{eq-eqb, cases_Bool}
-use Rattle.terms.specs.Terms.{Term, Terms, Term.var, Term.app, Terms.none, Terms.more, count, under, under_all}
+use Rattle.std.proofs.lemmas.Bool.{cases_Bool}
+use Rattle.terms.specs.Terms.{Term, Terms, Term.var, Term.app, Terms.none, Terms.more, under, under_all}
 use Rattle.terms.specs.Rules.{occurs, occurs_some, bound, bound_all}
 use Rattle.rewriting.specs.Matching.{same, same_all, image, images, matcher, matches}
 use Rattle.terms.proofs.Booleans.{both, fst_of, snd_of, one_of, or_l, or_r, cond_on, held}

@@ -1,12 +1,12 @@
 -- The search finds the first redex, or there is none.
-use Rattle.std.proofs.Common.{◌≡◌, ℕ, zero, suc, ◌+◌, ◌<◌, ◌≤◌, Bool, true, false, cond, T, ◌⊎◌, List, [], ◌∷◌, length, get_or, drop, Some, None, Option, sym, refl, ap, ◌∙◌, subst, inl, inr, arith}
+use Rattle.std.proofs.Common.{◌≡◌, ℕ, zero, suc, ◌+◌, ◌<◌, ◌≤◌, Bool, true, false, cond, T, List, [], ◌∷◌, length, drop, Some, None, Option, sym, refl, ap, ◌∙◌, subst, arith}
 use Rattle.std.proofs.lemmas.List.{at_drop_more, drop_more}
 use Rattle.terms.specs.declared.rule.Rule as kept
-use Rattle.terms.specs.Terms.{Term, size}
+use Rattle.terms.specs.Terms.{Term}
 use Rattle.terms.specs.Rules.{Rule, Numbered, rules_over}
 use Rattle.terms.specs.Steps.{Step, Normal, First, FirstRedex}
 use Rattle.terms.specs.Codes.{is_term, stack, top, term_of, sub_at}
-use Rattle.terms.specs.Models.{Sides, sides_of, all_sides}
+use Rattle.terms.specs.Models.{sides_of, all_sides}
 use Rattle.terms.specs.Systems.{rules_from}
 use Rattle.terms.proofs.Booleans.{held, clash, never}
 use Rattle.rewriting.specs.Matching.{matches}

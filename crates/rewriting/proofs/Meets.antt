@@ -1,19 +1,19 @@
 -- A left side against a subject, code by code: the substitutions that solve it stay the same.
-use Rattle.std.proofs.Common.{◌≡◌, ℕ, zero, suc, ◌+◌, ◌-◌, ◌*◌, ◌<◌, ◌≤◌, Bool, true, false, cond, ◌&&◌, ◌||◌, T, ltb, leb, ◌⊎◌, List, [], ◌∷◌, ◌++◌, length, get_or, take, drop, set, replicate, Some, None, Decides, Option, sym, refl, ap, ◌∙◌, subst, ap₂, inl, inr, arith, ltb→lt, length-set}
+use Rattle.std.proofs.Common.{◌≡◌, ℕ, zero, suc, ◌+◌, ◌-◌, ◌<◌, ◌≤◌, Bool, true, false, T, List, length, get_or, set, replicate, Some, None, Option, sym, refl, ap, ◌∙◌, subst, ap₂, inl, inr, arith, length-set}
 use Rattle.std.specs.List.{between}
-use Rattle.std.proofs.lemmas.Bool.{cases_lt, cases_eq, both_ways, ltb-true}
+use Rattle.std.proofs.lemmas.Bool.{cases_lt, cases_eq, both_ways}
 use Rattle.std.proofs.lemmas.List.{get_or-set_same, get_or-set_other, at_drop_all}
 use Rattle.rewriting.specs.declared.bindings.Range.{Range}
-use Rattle.terms.specs.Terms.{Term, Terms, Term.var, Term.app, Terms.none, Terms.more, count, codes, codes_all, size, size_all, over, over_all, under, under_all}
+use Rattle.terms.specs.Terms.{Term, Terms, Term.var, Term.app, Terms.none, Terms.more, count, codes, size, under, under_all}
 use Rattle.terms.specs.Contexts.{joined}
-use Rattle.terms.specs.Codes.{is_term, stack, top, term_of}
+use Rattle.terms.specs.Codes.{is_term, stack, term_of}
 use Rattle.terms.specs.Codes.{rest_at, sub_at}
 use Rattle.rewriting.specs.Bindings.{Meeting, Inside, Took, Means, Agrees, Spans, AllSpan, Solved}
 use Rattle.terms.specs.Replies.{span_reply}
 use Rattle.terms.proofs.Readings.{reads}
 use Rattle.terms.proofs.Spans.{span_is}
-use Rattle.terms.proofs.Views.{Symbol, symbol_at, variable_at, none_past, some_at, reads_at, counted, sub_fits, count-joined_all, low_at}
-use Rattle.terms.proofs.Subterms.{Part, part_at, first_of, lone_of, same_codes}
+use Rattle.terms.proofs.Views.{symbol_at, variable_at, none_past, some_at, counted, sub_fits, count-joined_all, low_at}
+use Rattle.terms.proofs.Subterms.{part_at, first_of, lone_of, same_codes}
 
 abbrev pub Meets : (ℕ → Term) → Terms → Terms → Type 0
 Meets σ none ts = Unit {0}

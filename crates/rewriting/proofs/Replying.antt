@@ -1,15 +1,14 @@
 -- What a step by a rule at a place answers.
-use Rattle.std.proofs.Common.{◌≡◌, ℕ, ◌+◌, ◌<◌, ◌≤◌, Bool, true, false, cond, ◌&&◌, T, leb, List, [], ◌∷◌, ◌++◌, length, take, drop, Ok, Err, Option, Result, sym, refl, ap, ◌∙◌, subst, ap₂, arith}
+use Rattle.std.proofs.Common.{◌≡◌, ℕ, ◌+◌, ◌<◌, ◌≤◌, Bool, true, false, cond, T, leb, List, ◌++◌, length, take, drop, Ok, Err, Option, Result, sym, refl, ap, ◌∙◌, ap₂, arith}
 use Rattle.std.proofs.lemmas.Bool.{le-leb, lt-leb}
 use Rattle.rewriting.specs.declared.bindings.Range.{Range}
 use Rattle.rewriting.specs.declared.fault.RewriteFault.{RewriteFault}
 use Rattle.rewriting.specs.declared.fault.RewriteFault.TheVariants as fault
-use Rattle.terms.specs.Terms.{Term, codes, size, over, under}
-use Rattle.terms.specs.Rules.{bound}
+use Rattle.terms.specs.Terms.{Term, size, under}
 use Rattle.terms.specs.Codes.{is_term, term_of, sub_at}
-use Rattle.terms.specs.Shapes.{all_within, is_side, is_rule, rule_of}
+use Rattle.terms.specs.Shapes.{all_within, is_rule, rule_of}
 use Rattle.terms.specs.Replies.{span_reply}
-use Rattle.terms.proofs.Booleans.{fst_of, snd_of, holds}
+use Rattle.terms.proofs.Booleans.{snd_of, holds}
 use Rattle.terms.proofs.Exactly.{rule-parts, rule_bound}
 use Rattle.terms.proofs.Readings.{counted_over, counted_codes}
 use Rattle.terms.proofs.Spans.{span_is}

@@ -1,21 +1,21 @@
 -- The codes after a rewrite are those of the term after the step.
-use Rattle.std.proofs.Common.{◌≡◌, ℕ, zero, suc, ◌+◌, ◌<◌, ◌≤◌, Bool, true, false, ◌&&◌, T, leb, List, [], ◌∷◌, ◌++◌, length, get_or, take, drop, sym, refl, ap, ◌∙◌, subst, ap₂, arith, length-append}
+use Rattle.std.proofs.Common.{◌≡◌, ℕ, zero, suc, ◌<◌, ◌≤◌, ◌&&◌, T, List, [], ◌∷◌, length, sym, ap, ◌∙◌, subst, ap₂, arith}
 use Rattle.std.proofs.lemmas.Bool.{le-leb}
 use Rattle.terms.specs.Terms.{Term, codes, size, over, under}
-use Rattle.terms.specs.Contexts.{Context, plug, place, before_hole, after_hole, Occurrence}
+use Rattle.terms.specs.Contexts.{plug, Occurrence}
 use Rattle.terms.specs.Rules.{Rule, Numbered, rules_over, rule_over, headed, bound, occurs}
 use Rattle.terms.specs.Steps.{Step}
 use Rattle.terms.specs.Codes.{counts, is_term, term_of, sub_at}
 use Rattle.terms.proofs.Booleans.{both, fst_of, snd_of, held}
 use Rattle.terms.proofs.Overs.{over_plug, over_under, rule-numbered}
 use Rattle.terms.proofs.Readings.{term_of_codes, counted_codes, term_counts}
-use Rattle.terms.proofs.Places.{codes_plug, length_codes, located}
+use Rattle.terms.proofs.Places.{length_codes, located}
 use Rattle.terms.proofs.Views.{counted}
 use Rattle.terms.proofs.Splices.{over_plugged, over_part, part_is, replaced}
 use Rattle.terms.proofs.Unique.{same_place, place_below}
 use Rattle.rewriting.specs.Matching.{matcher, matches}
 use Rattle.rewriting.specs.Filling.{next_codes}
-use Rattle.rewriting.proofs.Images.{under_bound, under_same, matcher_is, matches_all, matches_sound}
+use Rattle.rewriting.proofs.Images.{under_bound, under_same, matches_all, matches_sound}
 
 pub numbered_same : (rules : List Rule) (n : ℕ) (r s : Rule) → Numbered rules n r → Numbered rules n s → r ≡ s
 numbered_same [] n r s a b = absurd a

@@ -11,7 +11,7 @@ use Rattle.terms.specs.Steps.{Normal, FirstRedex}
 use Rattle.terms.specs.Codes.{is_term, term_of}
 use Rattle.terms.specs.Shapes.{rule_of}
 use Rattle.terms.specs.Models.{sides_of, all_sides, all_rules}
-use Rattle.terms.specs.Systems.{signature_of, listed_rules, rules_from}
+use Rattle.terms.specs.Systems.{listed_rules, rules_from}
 use Rattle.terms.proofs.Booleans.{clash}
 use Rattle.rewriting.specs.Bindings.{Applying}
 use Rattle.rewriting.specs.Replies.{rule_at, stepped, rewritten, answer, codes_after, Written}

@@ -1,18 +1,15 @@
 -- What the invariants of systems and subjects give.
-use Rattle.std.proofs.Common.{◌≡◌, ℕ, zero, suc, ◌+◌, ◌<◌, ◌≤◌, Bool, true, false, ◌&&◌, T, List, [], ◌∷◌, length, get_or, drop, sym, refl, ap, ◌∙◌, subst, ap₂, arith}
+use Rattle.std.proofs.Common.{◌≡◌, ℕ, zero, suc, ◌+◌, ◌<◌, ◌≤◌, T, List, [], ◌∷◌, length, get_or, drop, sym, refl, ap, ◌∙◌, subst, arith}
 use Rattle.std.proofs.lemmas.List.{drop_more}
 use Rattle.terms.specs.declared.rule.Rule as kept
 use Rattle.terms.specs.declared.system.System as held
-use Rattle.terms.specs.Rules.{Rule, rules_over}
-use Rattle.terms.specs.Codes.{is_term}
+use Rattle.terms.specs.Rules.{rules_over}
 use Rattle.terms.specs.Shapes.{is_rule, rule_of}
-use Rattle.terms.specs.Models.{Sides, sides_of, all_sides, all_rules}
+use Rattle.terms.specs.Models.{sides_of, all_sides, all_rules}
 use Rattle.terms.specs.Systems.{signature_of, listed_rules, rules_from, rules_of}
 use Rattle.terms.proofs.Booleans.{fst_of, snd_of}
-use Rattle.terms.proofs.Exactly.{rule-parts}
 use Rattle.terms.proofs.Made.{rules_read}
 use Rattle.terms.proofs.Scans.{few_symbols}
-use Rattle.rewriting.specs.Bindings.{Meeting, Applying}
 use Rattle.rewriting.specs.Replies.{rule_at}
 
 module _ (s : held.System) where

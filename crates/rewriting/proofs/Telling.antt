@@ -1,9 +1,9 @@
 -- The laws of matching and of one rewrite, from what they answer.
-use Rattle.std.proofs.Common.{◌≡◌, ℕ, zero, suc, ◌<◌, ◌≤◌, Bool, true, false, cond, ◌&&◌, T, ltb, leb, List, [], ◌∷◌, length, Ok, Err, Result, sym, refl, ap, ◌∙◌, subst, ap₂, arith, ltb→lt}
+use Rattle.std.proofs.Common.{◌≡◌, ℕ, zero, suc, ◌<◌, ◌≤◌, Bool, true, false, cond, ◌&&◌, T, ltb, leb, List, [], ◌∷◌, length, Ok, Err, Result, sym, refl, ap, ◌∙◌, subst, ap₂, arith}
 use Rattle.std.proofs.lemmas.Bool.{ltb-true, ltb-false, leb-true, leb-false, lt-ltb}
 use Rattle.rewriting.specs.declared.fault.RewriteFault.{RewriteFault}
 use Rattle.rewriting.specs.declared.fault.RewriteFault.TheVariants as fault
-use Rattle.terms.specs.Terms.{Term, size, under}
+use Rattle.terms.specs.Terms.{Term, size}
 use Rattle.terms.specs.Rules.{Rule, Numbered, rules_over}
 use Rattle.terms.specs.Steps.{Step}
 use Rattle.terms.specs.Codes.{is_term, term_of, sub_at}

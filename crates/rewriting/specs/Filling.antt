@@ -1,5 +1,5 @@
 -- A right side under bindings, and the codes of the next term.
-use Rattle.std.specs.Prelude.{◌≡◌, ℕ, ◌+◌, ◌-◌, ◌<◌, Bool, true, false, cond, List, [], ◌∷◌, ◌++◌, length, take, drop, Some, None, Option, nat_lt, slice_index_or}
+use Rattle.std.specs.Prelude.{◌≡◌, ℕ, ◌+◌, ◌-◌, ◌<◌, Bool, true, false, cond, List, [], ◌∷◌, ◌++◌, length, take, drop, None, Option, nat_lt, slice_index_or}
 use Rattle.rewriting.specs.declared.bindings.Range.{Range}
 use Rattle.terms.specs.Limits.{most_term}
 use Rattle.terms.specs.Terms.{Term, codes, size, under}

@@ -1,5 +1,5 @@
 -- What the answers mean in terms of the rewrite relation.
-use Rattle.std.specs.Prelude.{◌≡◌, ℕ, ◌<◌, ◌≤◌, Bool, List, [], ◌∷◌, length, Ok, Err, Decides, Result}
+use Rattle.std.specs.Prelude.{◌≡◌, ℕ, ◌<◌, ◌≤◌, Bool, List, length, Ok, Err, Decides, Result}
 use Rattle.rewriting.specs.declared.fault.RewriteFault.{RewriteFault}
 use Rattle.rewriting.specs.declared.fault.RewriteFault.TheVariants as fault
 use Rattle.terms.specs.Limits.{most_term}

@@ -1,11 +1,11 @@
 -- What the calls answer, with the tests in the order in which they are made.
-use Rattle.std.specs.Prelude.{◌≡◌, ℕ, Bool, true, false, cond, ◌&&◌, List, [], ◌∷◌, length, Ok, Err, Result, nat_le, nat_lt, slice_index_or}
+use Rattle.std.specs.Prelude.{◌≡◌, ℕ, Bool, cond, ◌&&◌, List, length, Ok, Err, Result, nat_le, nat_lt, slice_index_or}
 use Rattle.refusals.specs.declared.Refusal.{Refusal}
 use Rattle.refusals.specs.declared.Layer.TheVariants.{Review, Job}
 use Rattle.rewriting.specs.declared.fault.RewriteFault.{RewriteFault}
 use Rattle.rewriting.specs.declared.fault.RewriteFault.TheVariants as fault
 use Rattle.terms.specs.Limits.{most_term}
-use Rattle.terms.specs.Terms.{Term, Term.var}
+use Rattle.terms.specs.Terms.{Term.var}
 use Rattle.terms.specs.Rules.{Rule}
 use Rattle.terms.specs.Codes.{is_term, term_of, sub_at}
 use Rattle.rewriting.specs.Matching.{matches}

@@ -1,19 +1,18 @@
 -- The laws of the tests: what is accepted is just what there is as trees.
-use Rattle.std.proofs.Common.{◌≡◌, ℕ, zero, suc, ◌+◌, ◌-◌, ◌<◌, ◌≤◌, Bool, true, false, cond, ◌&&◌, T, ltb, leb, ◌⊎◌, List, [], ◌∷◌, ◌++◌, length, get_or, take, drop, Some, None, Option, sym, refl, ap, ◌∙◌, subst, ap₂, subst₂, inl, inr, arith, ltb→lt, leb→le}
-use Rattle.std.proofs.lemmas.Bool.{le-leb, lt-ltb, le-ltb, cases_Bool, ltb-false, ltb-true}
+use Rattle.std.proofs.Common.{◌≡◌, ℕ, suc, ◌+◌, ◌<◌, ◌≤◌, Bool, true, false, cond, ◌&&◌, T, ltb, leb, List, [], ◌∷◌, ◌++◌, length, get_or, take, drop, Some, None, Option, sym, refl, ap, ◌∙◌, subst, ap₂, arith, ltb→lt, leb→le}
+use Rattle.std.proofs.lemmas.Bool.{le-leb, lt-ltb, ltb-false}
 use Rattle.terms.specs.Terms.{Term, codes, size, over}
-use Rattle.terms.specs.Contexts.{Context, plug, place, before_hole, after_hole, Occurrence}
 use Rattle.terms.specs.Rules.{Rule, rule_over, headed, bound}
 use Rattle.terms.specs.Codes.{counts, is_term, term_of, sub_at, span}
-use Rattle.terms.specs.Shapes.{all_within, is_signature, is_side, is_proper, is_rule, rule_of, starts_with_symbol, covers}
+use Rattle.terms.specs.Shapes.{all_within, is_signature, is_side, is_proper, is_rule, starts_with_symbol, covers}
 use Rattle.terms.specs.declared.signature.Signature.{Signature}
-use Rattle.terms.specs.Models.{arities_of, Sides}
+use Rattle.terms.specs.Models.{arities_of}
 use Rattle.terms.specs.Replies.{end_reply}
-use Rattle.terms.specs.Laws.{SignatureExactly, Reading, TermExactly, Short, coded_rule, RuleReading, RuleExactly, Located, EndsExactly}
+use Rattle.terms.specs.Laws.{SignatureExactly, Reading, TermExactly, Short, RuleReading, RuleExactly, Located, EndsExactly}
 use Rattle.terms.proofs.Booleans.{both, fst_of, snd_of, held, holds}
 use Rattle.terms.proofs.Readings.{counted_over, counted_codes, term_counts}
 use Rattle.terms.proofs.Places.{length_codes, located}
-use Rattle.terms.proofs.Scans.{few_symbols, few_arguments, within_at}
+use Rattle.terms.proofs.Scans.{few_symbols, few_arguments}
 use Rattle.terms.proofs.Spans.{span-at}
 use Rattle.terms.proofs.Subterms.{same_codes}
 use Rattle.terms.proofs.Unique.{one_occurrence}

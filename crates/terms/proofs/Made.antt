@@ -1,5 +1,5 @@
 -- The laws of the checked constructors, from what they answer.
-use Rattle.std.proofs.Common.{◌≡◌, ℕ, ◌<◌, ◌≤◌, Bool, true, false, cond, ◌&&◌, T, leb, List, [], ◌∷◌, length, is_ok, Ok, Err, Result, sym, refl, ap, ◌∙◌, subst, ap₂, subst₂, arith, leb→le}
+use Rattle.std.proofs.Common.{◌≡◌, ℕ, ◌≤◌, Bool, true, false, cond, ◌&&◌, T, leb, List, [], ◌∷◌, length, is_ok, Ok, Err, Result, sym, refl, ap, ◌∙◌, subst, ap₂, arith, leb→le}
 use Rattle.std.proofs.lemmas.Bool.{le-leb}
 use Rattle.terms.specs.declared.malformed.Malformed.{Malformed}
 use Rattle.terms.specs.declared.malformed.Malformed.TheVariants as malformed
@@ -8,8 +8,8 @@ use Rattle.terms.specs.Shapes.{is_signature, is_rule}
 use Rattle.terms.specs.Models.{Sides, all_rules}
 use Rattle.terms.specs.Systems.{System, rules_from, system_reply}
 use Rattle.terms.specs.Replies.{signature_reply}
-use Rattle.terms.specs.Laws.{SignatureExactly, Short, AllShort, coded_rule, coded_rules, SystemReading, SystemExactly}
-use Rattle.terms.proofs.Booleans.{both, fst_of, snd_of, held as told, holds, clash, never}
+use Rattle.terms.specs.Laws.{SignatureExactly, AllShort, coded_rules, SystemExactly}
+use Rattle.terms.proofs.Booleans.{both, fst_of, snd_of, held as told, clash, never}
 use Rattle.terms.proofs.Exactly.{signature_exactly, reading, rule_reading, is_rule_of}
 
 pub signature_law : (arities : List ℕ) (r : Result (List ℕ) Malformed) → r ≡ signature_reply arities → SignatureExactly arities (is_ok r)

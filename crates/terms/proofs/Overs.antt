@@ -1,6 +1,6 @@
 -- Steps keep to the signature.
-use Rattle.std.proofs.Common.{◌≡◌, ℕ, zero, suc, ◌+◌, ◌<◌, ◌≤◌, Bool, true, false, ◌&&◌, ◌||◌, T, eqb, ltb, ◌⊎◌, List, [], ◌∷◌, ◌++◌, length, get_or, sym, refl, ap, ◌∙◌, subst, inl, inr, eqb→eq}
-use Rattle.terms.specs.Terms.{Term, Terms, count, size, over, over_all, under, under_all}
+use Rattle.std.proofs.Common.{◌≡◌, ℕ, zero, suc, ◌+◌, ◌&&◌, T, eqb, ltb, List, [], ◌∷◌, length, get_or, sym, refl, ap, subst, inl, inr, eqb→eq}
+use Rattle.terms.specs.Terms.{Term, Terms, count, over, over_all, under, under_all}
 use Rattle.terms.specs.Terms.{Term.var, Term.app, Terms.none, Terms.more}
 use Rattle.terms.specs.Contexts.{Context, Context.hole, Context.inside, joined, plug}
 use Rattle.terms.specs.Rules.{Rule, rule_over, rules_over, occurs, occurs_some, bound, bound_all, Numbered}

@@ -1,11 +1,11 @@
 -- The counting test says of codes exactly that they are those of a term.
-use Rattle.std.proofs.Common.{◌≡◌, ℕ, zero, suc, ◌+◌, ◌-◌, ◌<◌, ◌≤◌, Bool, true, false, cond, ◌&&◌, ◌||◌, T, eqb, ltb, leb, ◌↔◌, List, [], ◌∷◌, ◌++◌, length, get_or, sym, refl, ap, ◌∙◌, subst, ap₂, append_assoc, append-nil, arith, eqb→eq, ltb→lt, lt→ltb}
+use Rattle.std.proofs.Common.{◌≡◌, ℕ, zero, suc, ◌+◌, ◌-◌, ◌<◌, ◌≤◌, Bool, true, false, cond, ◌&&◌, T, eqb, ltb, ◌↔◌, List, [], ◌∷◌, ◌++◌, length, get_or, sym, refl, ap, ◌∙◌, subst, ap₂, append_assoc, append-nil, arith, eqb→eq, ltb→lt, lt→ltb}
 use lib.Dec.{eqb_refl}
-use Rattle.std.proofs.lemmas.Bool.{lt-ltb, le-ltb, ltb-true, ltb-false}
-use Rattle.terms.specs.Terms.{Term, Terms, Term.var, Term.app, Terms.none, Terms.more, count, codes, codes_all, size, size_all, over, over_all}
+use Rattle.std.proofs.lemmas.Bool.{lt-ltb, ltb-true, ltb-false}
+use Rattle.terms.specs.Terms.{Term, Terms, Term.var, Term.app, Terms.none, Terms.more, count, codes, codes_all, over, over_all}
 use Rattle.terms.specs.Contexts.{joined}
-use Rattle.terms.specs.Codes.{arity, known, counts, is_term, front, back, stack, top, term_of}
-use Rattle.terms.proofs.Booleans.{both, fst_of, snd_of, held}
+use Rattle.terms.specs.Codes.{arity, known, counts, front, back, stack, top, term_of}
+use Rattle.terms.proofs.Booleans.{both, fst_of, snd_of}
 use Rattle.terms.proofs.Counting.{known_variable, known_symbol, arity_variable, arity_symbol, counts_next}
 
 pub count-front : (n m : ℕ) (ts : Terms) → count ts ≡ m + n → count (front n ts) ≡ n

@@ -1,11 +1,11 @@
 -- A rule, by the codes of its sides.
-use Rattle.std.proofs.Common.{◌≡◌, ℕ, zero, suc, ◌+◌, ◌-◌, ◌<◌, ◌≤◌, Bool, true, false, ◌&&◌, ◌||◌, T, eqb, ltb, leb, ◌⊎◌, List, [], ◌∷◌, ◌++◌, length, get_or, sym, refl, ap, ◌∙◌, subst, ap₂, inl, inr, arith, ltb→lt}
+use Rattle.std.proofs.Common.{◌≡◌, ℕ, ◌+◌, ◌<◌, ◌≤◌, true, false, ◌&&◌, ◌||◌, T, eqb, ltb, leb, List, [], ◌∷◌, ◌++◌, length, get_or, sym, refl, ap, ◌∙◌, subst, ap₂, inl, inr, arith, ltb→lt}
 use mathlib.Core.Bool.{and_assoc, or_assoc, or-false, and-true}
 use Rattle.std.proofs.lemmas.Bool.{lt-ltb, le-ltb, le-leb, eq-eqb, ne_eqb, cases_eq}
 use Rattle.terms.specs.Terms.{Term, Terms, Term.var, Term.app, Terms.none, Terms.more, count, codes, codes_all, over, over_all}
 use Rattle.terms.specs.Rules.{occurs, occurs_some, bound, bound_all, headed}
 use Rattle.terms.specs.Shapes.{all_within, has, covers, starts_with_symbol}
-use Rattle.terms.proofs.Booleans.{both, fst_of, snd_of, held, holds}
+use Rattle.terms.proofs.Booleans.{both, fst_of, snd_of, held}
 
 has-append : (c : ℕ) (xs ys : List ℕ) → has (xs ++ ys) c ≡ (has xs c || has ys c)
 has-append c [] ys = refl

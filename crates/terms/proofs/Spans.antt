@@ -1,9 +1,9 @@
 -- How many codes a subterm takes is found by counting.
-use Rattle.std.proofs.Common.{◌≡◌, ℕ, zero, suc, ◌+◌, ◌-◌, ◌<◌, ◌≤◌, Bool, true, false, cond, ◌&&◌, T, ltb, leb, List, [], ◌∷◌, length, get_or, drop, sym, refl, ap, ◌∙◌, subst, arith}
+use Rattle.std.proofs.Common.{◌≡◌, ℕ, zero, suc, ◌+◌, ◌-◌, ◌<◌, ◌≤◌, Bool, true, false, cond, T, ltb, List, [], ◌∷◌, length, get_or, drop, refl, ap, ◌∙◌, arith}
 use Rattle.std.proofs.lemmas.Bool.{ltb-true, ltb-false, le-leb}
 use Rattle.std.proofs.lemmas.List.{at_drop_more, at_drop_all}
-use Rattle.terms.specs.Terms.{Term, Terms, Term.var, Term.app, Terms.none, Terms.more, count, size, size_all}
-use Rattle.terms.specs.Codes.{arity, known, counts, is_term, span, front, back, stack, top, rest_at, sub_at}
+use Rattle.terms.specs.Terms.{Terms, Term.var, Term.app, Terms.none, Terms.more, size, size_all}
+use Rattle.terms.specs.Codes.{arity, known, counts, is_term, span, front, back, stack, rest_at, sub_at}
 use Rattle.terms.specs.Replies.{span_reply}
 use Rattle.terms.proofs.Booleans.{snd_of}
 use Rattle.terms.proofs.Counting.{arity_variable, arity_symbol}

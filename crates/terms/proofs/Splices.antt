@@ -1,5 +1,5 @@
 -- A subterm in its context is a part of the codes, and another term put there is spliced in.
-use Rattle.std.proofs.Common.{◌≡◌, ℕ, ◌+◌, ◌<◌, ◌≤◌, T, List, [], ◌∷◌, ◌++◌, length, take, drop, sym, refl, ap, ◌∙◌, subst, ap₂, arith}
+use Rattle.std.proofs.Common.{◌≡◌, ℕ, ◌+◌, ◌≤◌, T, List, ◌++◌, length, take, drop, sym, ap, ◌∙◌, subst, ap₂, arith}
 use Rattle.std.proofs.lemmas.List.{drop_at, take_at, drop-drop}
 use Rattle.terms.specs.Terms.{Term, codes, size, over}
 use Rattle.terms.specs.Contexts.{Context, plug, place, before_hole, after_hole}

@@ -1,8 +1,8 @@
 -- A subterm, its codes and what follows it.
-use Rattle.std.proofs.Common.{◌≡◌, ℕ, zero, suc, ◌+◌, ◌-◌, ◌*◌, ◌<◌, ◌≤◌, Bool, true, false, cond, ◌&&◌, ◌||◌, T, List, [], ◌∷◌, ◌++◌, length, get_or, take, drop, sym, refl, ap, ◌∙◌, subst, ap₂, append-nil, arith}
+use Rattle.std.proofs.Common.{◌≡◌, ℕ, ◌+◌, ◌-◌, ◌<◌, ◌≤◌, T, List, [], ◌++◌, length, take, drop, sym, refl, ap, ◌∙◌, subst, ap₂, append-nil, arith}
 use Rattle.std.specs.List.{between}
 use Rattle.std.proofs.lemmas.List.{drop_at, take_at, drop-drop}
-use Rattle.terms.specs.Terms.{Term, Terms, Term.var, Term.app, Terms.none, Terms.more, count, codes, codes_all, size, size_all, over, over_all}
+use Rattle.terms.specs.Terms.{Term, Terms, Terms.none, Terms.more, count, codes, codes_all, size, over, over_all}
 use Rattle.terms.specs.Contexts.{joined}
 use Rattle.terms.specs.Codes.{is_term, stack, top, term_of, rest_at, sub_at}
 use Rattle.terms.proofs.Booleans.{fst_of, snd_of}

@@ -1,8 +1,7 @@
 -- A place of a term has one context and one subterm.
-use Rattle.std.proofs.Common.{◌≡◌, ℕ, ◌+◌, ◌<◌, ◌≤◌, length, sym, refl, ap, ◌∙◌, subst, ap₂, arith, length-append}
-use Rattle.terms.specs.Terms.{Term, Terms, Term.var, Term.app, Terms.none, Terms.more, size, size_all, codes}
+use Rattle.std.proofs.Common.{◌≡◌, ℕ, ◌+◌, ◌<◌, sym, refl, ap, ◌∙◌, ap₂, arith}
+use Rattle.terms.specs.Terms.{Term, Terms, Terms.none, Terms.more, size, size_all}
 use Rattle.terms.specs.Contexts.{Context, Context.hole, Context.inside, joined, plug, place, Occurrence}
-use Rattle.terms.proofs.Booleans.{clash}
 use Rattle.terms.proofs.Views.{size_positive}
 
 size_joined : (ts us : Terms) → size_all (joined ts us) ≡ size_all ts + size_all us

@@ -1,14 +1,14 @@
 -- What stands at a place of codes.
-use Rattle.std.proofs.Common.{◌≡◌, ℕ, zero, suc, ◌+◌, ◌-◌, ◌*◌, ◌<◌, ◌≤◌, Bool, true, false, cond, ◌&&◌, ◌||◌, T, eqb, ltb, leb, ◌⊎◌, List, [], ◌∷◌, ◌++◌, length, get_or, drop, sym, refl, ap, ◌∙◌, subst, ap₂, inl, inr, arith, ltb→lt, leb→le, length-append, length-drop}
+use Rattle.std.proofs.Common.{◌≡◌, ℕ, zero, suc, ◌+◌, ◌-◌, ◌<◌, ◌≤◌, cond, T, leb, List, [], ◌∷◌, length, get_or, drop, sym, refl, ap, ◌∙◌, subst, inl, inr, arith, ltb→lt, leb→le, length-drop}
 use Rattle.std.proofs.lemmas.Bool.{lt-ltb, le-ltb, cases_lt}
 use Rattle.std.proofs.lemmas.List.{at_drop_more, at_drop_all, drop_more}
-use Rattle.terms.specs.Terms.{Term, Terms, Term.var, Term.app, Terms.none, Terms.more, count, codes, codes_all, size, size_all, over, over_all}
+use Rattle.terms.specs.Terms.{Term, Terms, Term.var, Term.app, Terms.none, Terms.more, count, size, size_all}
 use Rattle.terms.specs.Contexts.{joined}
-use Rattle.terms.specs.Codes.{arity, known, counts, is_term, front, back, stack, top, term_of, rest_at, sub_at}
-use Rattle.terms.proofs.Booleans.{both, fst_of, snd_of}
+use Rattle.terms.specs.Codes.{arity, known, counts, is_term, front, back, stack, top, rest_at, sub_at}
+use Rattle.terms.proofs.Booleans.{fst_of, snd_of}
 use Rattle.terms.proofs.Counting.{known_symbol, known_variable, arity_symbol}
 use Rattle.terms.proofs.Readings.{Reads, reads, count-front}
-use Rattle.terms.proofs.Places.{length_codes, length_codes_all}
+use Rattle.terms.proofs.Places.{length_codes_all}
 
 pub joined_split : (n : ℕ) (ts : Terms) → joined (front n ts) (back n ts) ≡ ts
 joined_split zero ts = refl

@@ -2,7 +2,6 @@
 use Rattle.std.specs.Prelude.{ℕ, zero, suc, ◌+◌, ◌-◌, Bool, true, false, cond, ◌&&◌, List, [], ◌∷◌, length, drop, nat_le, nat_lt, slice_index}
 use Rattle.terms.specs.Limits.{variables, most_term}
 use Rattle.terms.specs.Terms.{Term, Terms, Term.var, Term.app, Terms.none, Terms.more}
-use Rattle.terms.specs.Rules.{Rule}
 
 -- a code's number of arguments
 abbrev pub arity : List ℕ → ℕ → ℕ

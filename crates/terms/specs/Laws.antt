@@ -1,9 +1,9 @@
 -- What the answers of the calls mean, in terms of trees: each law says exactly when codes are accepted, and as what.
-use Rattle.std.specs.Prelude.{◌≡◌, ℕ, ◌+◌, ◌<◌, ◌≤◌, Bool, true, T, List, [], ◌∷◌, ◌++◌, length, take, drop, Some, None, Ok, Err, Decides, Option, Result, slice_index}
+use Rattle.std.specs.Prelude.{◌≡◌, ℕ, ◌+◌, ◌≤◌, Bool, true, T, List, [], ◌∷◌, ◌++◌, length, take, drop, Some, None, Ok, Err, Option, Result, slice_index}
 use Rattle.terms.specs.declared.malformed.Malformed.{Malformed}
 use Rattle.terms.specs.Limits.{most_symbols, most_arguments, most_rules, most_side, most_term}
 use Rattle.terms.specs.Terms.{Term, codes, size, over}
-use Rattle.terms.specs.Contexts.{Context, plug, Occurrence}
+use Rattle.terms.specs.Contexts.{plug, Occurrence}
 use Rattle.terms.specs.Rules.{Rule, rule_over, rules_over}
 use Rattle.terms.specs.Models.{Sides}
 use Rattle.terms.specs.Systems.{System, rules_from}

@@ -1,5 +1,5 @@
 -- What the values of the code stand for: arities and sides, as lists of numbers.
-use Rattle.std.specs.Prelude.{ℕ, Bool, true, false, ◌&&◌, List, [], ◌∷◌}
+use Rattle.std.specs.Prelude.{ℕ, Bool, true, ◌&&◌, List, [], ◌∷◌}
 use Rattle.bounded.specs.Items.{items}
 use Rattle.terms.specs.declared.signature.Signature.{Signature}
 use Rattle.terms.specs.declared.rule.Rule as kept

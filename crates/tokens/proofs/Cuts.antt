@@ -1,11 +1,11 @@
 -- Every text has one cut into tokens: the one that the definition gives.
-use Rattle.std.proofs.Common.{◌≡◌, ℕ, zero, suc, ◌+◌, ◌-◌, ◌<◌, ◌≤◌, Bool, true, false, cond, ◌&&◌, ◌||◌, T, eqb, leb, ◌⊎◌, List, [], ◌∷◌, ◌++◌, length, get_or, take, drop, sym, refl, ap, ◌∙◌, subst, ap₂, inl, inr, append_assoc, append-nil, arith, length-append, length-drop, length-take}
-use Rattle.std.proofs.lemmas.List.{take-append-drop, drop_at, take_at, length-take-le}
-use Rattle.std.proofs.lemmas.Bool.{cond-true, cond-false, and_from, and_parts, eq-eqb, ne_eqb, cases_Bool, cases_eq, le-leb, lt-leb, leb-true, leb-false, or_cases, or_parts, eqb-true, and_left, and_right, false≢true}
+use Rattle.std.proofs.Common.{◌≡◌, ℕ, zero, suc, ◌+◌, ◌≤◌, Bool, true, false, cond, eqb, leb, ◌⊎◌, List, [], ◌∷◌, ◌++◌, length, get_or, take, drop, sym, refl, ap, ◌∙◌, subst, ap₂, inl, inr, append-nil, arith, length-drop}
+use Rattle.std.proofs.lemmas.List.{take-append-drop, drop_at, take_at}
+use Rattle.std.proofs.lemmas.Bool.{cond-true, cond-false, and_from, and_parts, eq-eqb, ne_eqb, cases_Bool, cases_eq, le-leb, lt-leb, leb-true, leb-false, or_cases, eqb-true, and_left, and_right, false≢true}
 use Rattle.tokens.specs.Bytes.{blank, letter, all_letters, run}
-use Rattle.tokens.specs.Tokens.{Word, Word.lpar, Word.rpar, Word.comma, Word.arrow, Word.named, Word.long, Word.illegal, Tok, name_or_long, is_arrow, mark, token, extra, lex, tokens}
-use Rattle.tokens.specs.Cuts.{all_blank, Stops, Stray, Spelled, Spelled.open_bracket, Spelled.close_bracket, Spelled.a_comma, Spelled.an_arrow, Spelled.a_name, Spelled.a_long_name, Spelled.a_stray, Cut, Cut.at_end, Cut.token_next, Tokenized}
-use Rattle.tokens.proofs.Lexes.{lex_skip, run_letters, stops}
+use Rattle.tokens.specs.Tokens.{Word, Word.arrow, Word.named, Word.long, Tok, name_or_long, is_arrow, mark, token, extra, lex}
+use Rattle.tokens.specs.Cuts.{all_blank, Stops, Spelled, Spelled.open_bracket, Spelled.close_bracket, Spelled.a_comma, Spelled.an_arrow, Spelled.a_name, Spelled.a_long_name, Spelled.a_stray, Cut, Cut.at_end, Cut.token_next, Tokenized}
+use Rattle.tokens.proofs.Lexes.{lex_skip, run_letters}
 
 -- blanks are passed
 lex_gap : (at : ℕ) (gap bs : List ℕ) → all_blank gap → lex at 0 (gap ++ bs) ≡ lex (at + length gap) 0 bs

@@ -1,6 +1,6 @@
 -- What it means that a text is cut into tokens: blanks may stand before each, and none could be longer.
-use Rattle.std.specs.Prelude.{◌≡◌, ℕ, ◌+◌, ◌<◌, Bool, true, false, List, [], ◌∷◌, ◌++◌, length, ◌≢◌, slice_index}
-use Rattle.tokens.specs.Bytes.{blank, letter, all_letters, is_name}
+use Rattle.std.specs.Prelude.{◌≡◌, ℕ, ◌+◌, ◌<◌, true, false, List, [], ◌∷◌, ◌++◌, length, ◌≢◌, slice_index}
+use Rattle.tokens.specs.Bytes.{blank, letter, all_letters}
 use Rattle.tokens.specs.Tokens.{Word, Word.lpar, Word.rpar, Word.comma, Word.arrow, Word.named, Word.long, Word.illegal, Tok, tokens}
 
 abbrev pub all_blank : List ℕ → Type 0

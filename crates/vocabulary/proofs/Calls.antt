@@ -1,16 +1,15 @@
 -- What the calls come to, by cases.
-use Rattle.std.proofs.Common.{◌≡◌, ℕ, zero, suc, ◌+◌, ◌<◌, ◌≤◌, Bool, true, false, cond, not, T, eqb, ltb, leb, List, [], ◌∷◌, ◌++◌, length, get_or, set, is_some, is_ok, Some, None, Ok, Err, Option, Result, sym, refl, ap, ◌∙◌, subst, ap₂, arith}
-use Rattle.std.specs.Option.{option_map}
-use Rattle.std.proofs.lemmas.Bool.{cond-true, cond-false, lt-ltb, le-ltb, le-leb, lt-leb, leb-true, leb-false, eq-eqb, ne_eqb}
+use Rattle.std.proofs.Common.{◌≡◌, ℕ, zero, suc, ◌+◌, ◌<◌, ◌≤◌, Bool, true, false, cond, not, ltb, leb, List, [], ◌∷◌, ◌++◌, length, get_or, set, is_some, is_ok, Some, None, Ok, Err, Option, Result, sym, refl, ap, ◌∙◌, subst, ap₂, arith}
+use Rattle.std.proofs.lemmas.Bool.{cond-true, cond-false, lt-ltb, le-ltb, le-leb, lt-leb, leb-true, leb-false}
 use Rattle.terms.proofs.Booleans.{clash}
 use Rattle.bounded.specs.Items.{items, room, grown}
 use Rattle.bounded.proofs.Lengths.{items_few}
 use Rattle.tokens.specs.declared.name.Name.{Name}
 use Rattle.tokens.specs.Names.{name_bytes}
 use Rattle.vocabulary.specs.declared.flaw.Flaw.{Flaw}
-use Rattle.vocabulary.specs.declared.flaw.Flaw.TheVariants.{TooMany, Arguments, UnknownName, DeclaredTwice}
+use Rattle.vocabulary.specs.declared.flaw.Flaw.TheVariants.{TooMany, UnknownName, DeclaredTwice}
 use Rattle.vocabulary.specs.declared.vocabulary.Vocabulary as kept
-use Rattle.vocabulary.specs.Vocabularies.{Vocabulary, names, found, var_or, code_of, arity_of, with_symbol, with_arity, with_variable, Consistent}
+use Rattle.vocabulary.specs.Vocabularies.{Vocabulary, names, found, code_of, arity_of, with_symbol, with_arity, with_variable, Consistent}
 use Rattle.vocabulary.specs.Models.{vocabulary_of}
 use Rattle.vocabulary.specs.Laws.{Keeps}
 use Rattle.vocabulary.specs.Replies.{entry, declare_reply, number_by, number_reply, numbered_by, numbered, settle_by, settle_reply, settled_by, settled}

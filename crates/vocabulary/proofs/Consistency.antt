@@ -1,5 +1,5 @@
 -- In a consistent vocabulary each name has one code and each code one name, and growth keeps it consistent.
-use Rattle.std.proofs.Common.{◌≡◌, ℕ, zero, suc, ◌+◌, ◌-◌, ◌<◌, ◌≤◌, Bool, true, false, cond, ◌&&◌, T, eqb, ltb, leb, ◌⊎◌, List, [], ◌∷◌, ◌++◌, length, get_or, set, Some, None, Option, sym, refl, ap, ◌∙◌, subst, inl, inr, arith, eqb→eq, leb→le}
+use Rattle.std.proofs.Common.{◌≡◌, ℕ, zero, suc, ◌+◌, ◌-◌, ◌<◌, ◌≤◌, Bool, true, false, cond, ◌&&◌, T, ltb, leb, List, [], ◌∷◌, ◌++◌, length, get_or, set, Some, None, Option, sym, refl, ap, ◌∙◌, subst, inl, inr, arith, eqb→eq, leb→le}
 use Rattle.std.specs.Str.{bytes_eq}
 use Rattle.std.proofs.lemmas.Slice.Eq.{bytes_eq-Decides}
 use Rattle.std.proofs.lemmas.Bool.{cond-true, cond-false, lt-ltb, le-ltb, ltb-false, eq-eqb, le-leb}
@@ -7,7 +7,7 @@ use Rattle.terms.proofs.Booleans.{clash, fst_of, snd_of}
 use Rattle.vocabulary.specs.Vocabularies.{Vocabulary, found, var_or, code_of, arity_of, with_symbol, with_arity, with_variable, is_number, all_coded, all_small, Consistent}
 use Rattle.vocabulary.specs.Replies.{entry, name_at}
 use Rattle.vocabulary.specs.Laws.{Names, Names.variable, Names.symbol, CodeExactly, NameExactly, Keeps}
-use Rattle.vocabulary.proofs.Founds.{found_is, found_more, found_new, IsVariable, IsSymbol, code_is}
+use Rattle.vocabulary.proofs.Founds.{found_more, found_new, code_is}
 use Rattle.vocabulary.proofs.Growing.{grows_symbol, grows_arity, same_code, even_symbol, even_arity}
 
 true_T : {b : Bool} → b ≡ true → T b

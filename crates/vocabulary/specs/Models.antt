@@ -1,5 +1,4 @@
 -- What the names of the code stand for.
-use Rattle.std.specs.Prelude.{ℕ, List}
 use Rattle.bounded.specs.Items.{items}
 use Rattle.vocabulary.specs.declared.vocabulary.Vocabulary as kept
 use Rattle.vocabulary.specs.Vocabularies.{Vocabulary, names}

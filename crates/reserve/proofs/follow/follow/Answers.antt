@@ -1,8 +1,8 @@
-use Rattle.std.proofs.Common.{◌≡◌, ℕ, sym, refl, subst, arith}
+use Rattle.std.proofs.Common.{◌≡◌, refl, subst, arith}
 use Rattle.reserve.specs.declared.follow.End.TheVariants as end
 use Rattle.rewriting.specs.Subjects.{rules_in, term_in}
 use Rattle.reserve.specs.Trips.{Followed}
-use Rattle.reserve.proofs.Following.{Following, starts, goes_on, ends}
+use Rattle.reserve.proofs.Following.{starts, goes_on, ends}
 use Rattle.reserve.proofs.follow.follow.Goals as goal
 
 pub loop-steps-init : goal.loop-steps-init

@@ -1,7 +1,7 @@
-use Rattle.std.proofs.Common.{◌≡◌, ℕ, ◌+◌, ◌-◌, ◌<◌, ◌≤◌, length, get_or, sym, refl, ap, ◌∙◌, arith, rules}
+use Rattle.std.proofs.Common.{refl, ap, arith, rules}
 use Rattle.terms.specs.Models.{arities_of}
 use Rattle.terms.proofs.Views.{short}
-use Rattle.rewriting.proofs.Meets.{Going, going_starts, going_done, going_inside, going_symbol, going_apart, going_binds, going_clashes, going_inside_old, going_end, going_low, nones, going_moved}
+use Rattle.rewriting.proofs.Meets.{going_starts, going_done, going_inside, going_symbol, going_apart, going_binds, going_clashes, going_inside_old, going_end, going_low, nones, going_moved}
 use Rattle.rewriting.proofs.matching.match_at.Goals as goal
 use Rattle.rewriting.proofs.matching.match_at.Goals.{then-code-lt-FIRST_VARIABLE+else-codes-place, else-code-lt-FIRST_VARIABLE+else-not-bind}
 

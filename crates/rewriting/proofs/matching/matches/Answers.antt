@@ -1,5 +1,4 @@
-use Rattle.std.proofs.Common.{◌≡◌, Bool, true, false, T, Ok, Err, Result, sym, refl, ap, ◌∙◌, rules}
-use Rattle.rewriting.specs.declared.fault.RewriteFault.{RewriteFault}
+use Rattle.std.proofs.Common.{◌≡◌, Ok, Err, sym, rules}
 use Rattle.rewriting.specs.declared.fault.RewriteFault.TheVariants as fault
 use Rattle.terms.specs.Models.{arities_of}
 use Rattle.terms.proofs.Booleans.{held}

@@ -1,4 +1,4 @@
-use Rattle.std.proofs.Common.{◌≡◌, ◌+◌, true, false, T, ◌++◌, take, drop, sym, refl, ap, subst, arith}
+use Rattle.std.proofs.Common.{◌+◌, true, false, T, ◌++◌, take, drop, sym, refl, ap, subst, arith}
 use Rattle.bounded.specs.Items.{items}
 use Rattle.bounded.proofs.Lengths.{items_few}
 use Rattle.terms.specs.Shapes.{all_within}

@@ -1,7 +1,7 @@
-use Rattle.std.proofs.Common.{◌≡◌, ℕ, ◌+◌, ◌<◌, ◌≤◌, T, drop, Some, None, sym, refl, ap, ◌∙◌, subst, ap₂, subst₂}
+use Rattle.std.proofs.Common.{◌+◌, T, drop, sym, ap, ◌∙◌, subst, ap₂, subst₂}
 use Rattle.std.proofs.lemmas.List.{at_drop_all}
 use Rattle.terms.specs.Codes.{is_term, sub_at}
-use Rattle.terms.specs.Models.{arities_of, all_sides, all_rules}
+use Rattle.terms.specs.Models.{all_sides, all_rules}
 use Rattle.terms.specs.Systems.{signature_of, rules_from, rules_of}
 use Rattle.rewriting.specs.Searching.{rule_from, found, first_from}
 use Rattle.rewriting.proofs.Looks.{first_next}

@@ -1,4 +1,4 @@
-use Rattle.std.proofs.Common.{◌≡◌, sym, ◌∙◌, arith}
+use Rattle.std.proofs.Common.{sym, arith}
 use Rattle.bounded.specs.Items.{items}
 use Rattle.reading.specs.Models.{role_of, state_of}
 use Rattle.reading.proofs.Pushes.{below, pushed-items, longer}

@@ -1,4 +1,4 @@
-use Rattle.std.proofs.Common.{◌≡◌, ℕ, Bool, List, Some, None, Decides, Option, sym, refl, subst}
+use Rattle.std.proofs.Common.{◌≡◌, ℕ, Bool, List, Some, Decides, Option, sym, refl, subst}
 use Rattle.std.specs.List.{between}
 use Rattle.std.proofs.lemmas.Slice.Eq.{slice_eq-Decides}
 use Rattle.rewriting.specs.declared.bindings.Range.{Range}

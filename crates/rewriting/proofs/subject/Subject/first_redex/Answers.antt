@@ -1,4 +1,4 @@
-use Rattle.std.proofs.Common.{◌≡◌, T, sym, refl, ap, ◌∙◌, subst}
+use Rattle.std.proofs.Common.{T, sym, ap, ◌∙◌, subst}
 use Rattle.bounded.specs.Items.{items}
 use Rattle.terms.specs.Codes.{is_term}
 use Rattle.terms.specs.Systems.{signature_of, rules_of}

@@ -1,7 +1,7 @@
-use Rattle.std.proofs.Common.{◌≡◌, ◌≤◌, length, get_or, sym, ap, ◌∙◌, subst, arith}
+use Rattle.std.proofs.Common.{◌≤◌, length, get_or, sym, ap, ◌∙◌, subst, arith}
 use Rattle.std.proofs.lemmas.List.{get_or_past}
 use Rattle.terms.specs.Models.{arities_of}
-use Rattle.terms.proofs.Counting.{arity_symbol, arity_variable}
+use Rattle.terms.proofs.Counting.{arity_symbol}
 use Rattle.terms.proofs.Scans.{few_arguments}
 use Rattle.terms.proofs.signature.Signature.arity.Goals as goal
 

@@ -1,4 +1,4 @@
-use Rattle.std.proofs.Common.{◌≡◌, Bool, true, false, ◌&&◌, sym, rules}
+use Rattle.std.proofs.Common.{◌≡◌, false, rules}
 use Rattle.terms.specs.Models.{arities_of}
 use Rattle.terms.specs.Shapes.{is_rule}
 use Rattle.terms.proofs.Exactly.{rule_law}

@@ -1,6 +1,5 @@
-use Rattle.std.proofs.Common.{◌≡◌, Ok, Err, Result, sym, rules}
+use Rattle.std.proofs.Common.{◌≡◌, Ok, Err, rules}
 use Rattle.bounded.specs.Items.{items}
-use Rattle.terms.specs.declared.malformed.Malformed.{Malformed}
 use Rattle.terms.specs.declared.malformed.Malformed.TheVariants as malformed
 use Rattle.terms.specs.Replies.{signature_reply}
 use Rattle.terms.proofs.Made.{signature_law}

@@ -1,6 +1,6 @@
-use Rattle.std.proofs.Common.{◌≡◌, ◌+◌, ◌-◌, cond, length, get_or, drop, sym, refl, ap, ◌∙◌, arith}
+use Rattle.std.proofs.Common.{◌≡◌, ◌+◌, ◌-◌, cond, length, drop, sym, ap, ◌∙◌, arith}
 use Rattle.std.proofs.lemmas.Bool.{le-leb}
-use Rattle.terms.specs.Codes.{span, arity}
+use Rattle.terms.specs.Codes.{span}
 use Rattle.terms.specs.Models.{arities_of}
 use Rattle.terms.proofs.Spans.{span_more, span_past, span_met}
 use Rattle.terms.proofs.signature.Signature.span.Goals as goal

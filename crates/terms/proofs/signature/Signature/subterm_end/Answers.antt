@@ -1,4 +1,4 @@
-use Rattle.std.proofs.Common.{◌≡◌, ℕ, ◌+◌, Some, None, Option, sym, rules}
+use Rattle.std.proofs.Common.{◌≡◌, ◌+◌, Some, None, rules}
 use Rattle.terms.specs.Models.{arities_of}
 use Rattle.terms.specs.Replies.{end_reply}
 use Rattle.terms.proofs.Exactly.{end_law}

@@ -1,4 +1,4 @@
-use Rattle.std.proofs.Common.{◌≡◌, ℕ, List, Ok, Err, Result}
+use Rattle.std.proofs.Common.{◌≡◌, List, Ok, Err, Result}
 use Rattle.bounded.specs.Items.{items}
 use Rattle.terms.specs.declared.signature.Signature.{Signature}
 use Rattle.terms.specs.declared.malformed.Malformed.{Malformed}

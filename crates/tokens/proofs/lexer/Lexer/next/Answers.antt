@@ -1,4 +1,4 @@
-use Rattle.std.proofs.Common.{◌≡◌, [], ◌∷◌, length, sym, refl, ap, ◌∙◌, subst, arith}
+use Rattle.std.proofs.Common.{length, sym, refl, ◌∙◌, subst, arith}
 use Rattle.tokens.specs.Lexing.{Taken}
 use Rattle.tokens.specs.Tokens.{tokens_from}
 use Rattle.tokens.proofs.Lexes.{left_blanks, at_stop, left_none, left_next}

@@ -1,4 +1,4 @@
-use Rattle.std.proofs.Common.{◌≡◌, ◌+◌, true, false, ◌&&◌, eqb, get_or, drop, sym, refl, ap, ◌∙◌, ap₂, add-zero, arith, get_or-drop}
+use Rattle.std.proofs.Common.{◌≡◌, ◌+◌, ◌&&◌, eqb, get_or, drop, sym, ap, ◌∙◌, ap₂, add-zero, arith, get_or-drop}
 use Rattle.std.proofs.lemmas.List.{get_or_past}
 use Rattle.std.proofs.lemmas.Bool.{eq-eqb, ne_eqb, and_left, and_right, false≢true}
 use Rattle.tokens.proofs.lexer.calls.is_arrow_at.Goals as goal

@@ -1,4 +1,4 @@
-use Rattle.std.proofs.Common.{◌≡◌, sym, ◌∙◌, arith}
+use Rattle.std.proofs.Common.{sym, ◌∙◌, arith}
 use Rattle.tokens.specs.Classes.{in_class}
 use Rattle.tokens.proofs.Lexes.{run_more, run_stop, run_end}
 use Rattle.tokens.proofs.lexer.calls.past.Goals as goal

@@ -2,7 +2,7 @@ use Rattle.std.proofs.Common.{◌≡◌, suc, ◌+◌, ◌-◌, true, false, T, 
 use Rattle.std.proofs.lemmas.List.{drop_more}
 use Rattle.std.proofs.lemmas.Bool.{cond-true, cond-false, and_from}
 use Rattle.tokens.specs.Bytes.{letter, all_letters, run}
-use Rattle.tokens.specs.Tokens.{is_arrow, mark, name_or_long, token, extra}
+use Rattle.tokens.specs.Tokens.{is_arrow, name_or_long, extra}
 use Rattle.tokens.proofs.Lexes.{run_letters}
 use Rattle.tokens.proofs.lexer.calls.token_at.Goals as goal
 

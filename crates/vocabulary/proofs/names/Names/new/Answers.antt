@@ -1,4 +1,4 @@
-use Rattle.std.proofs.Common.{◌≡◌, ℕ, ◌≤◌, T, List, length, Some, Option, sym, refl, ap, ◌∙◌, subst, arith}
+use Rattle.std.proofs.Common.{◌≡◌, T, length, Some, sym, ap, ◌∙◌, subst, arith}
 use Rattle.bounded.specs.Items.{items}
 use Rattle.bounded.proofs.Lengths.{items_few}
 use Rattle.terms.specs.Models.{arities_of}

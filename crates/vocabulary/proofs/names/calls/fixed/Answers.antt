@@ -1,4 +1,4 @@
-use Rattle.std.proofs.Common.{◌≡◌, sym, refl, ap, ◌∙◌}
+use Rattle.std.proofs.Common.{sym, ap, ◌∙◌}
 use Rattle.std.proofs.lemmas.Bool.{cond-true, le-leb}
 use Rattle.bounded.specs.Items.{items}
 use Rattle.vocabulary.proofs.Fixing.{somes, somes_more, somes_stop, somes_end, somes-room}

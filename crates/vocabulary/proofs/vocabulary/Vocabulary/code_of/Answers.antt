@@ -1,5 +1,4 @@
-use Rattle.std.proofs.Common.{◌≡◌, sym, refl, ap, ◌∙◌, arith}
-use Rattle.bounded.specs.Items.{items}
+use Rattle.std.proofs.Common.{ap, ◌∙◌, arith}
 use Rattle.tokens.specs.Names.{name_bytes}
 use Rattle.vocabulary.specs.Vocabularies.{names, found, var_or}
 use Rattle.vocabulary.specs.Models.{vocabulary_of}

@@ -1,8 +1,7 @@
-use Rattle.std.proofs.Common.{◌≡◌, ℕ, ◌<◌, ◌≤◌, List, length, Some, None, Option, sym, refl, ap, ◌∙◌, subst, arith}
+use Rattle.std.proofs.Common.{length, Some, None, sym, ap, ◌∙◌, subst, arith}
 use Rattle.std.proofs.lemmas.Bool.{cond-true, cond-false, eq-eqb, ne_eqb, le-leb, lt-leb}
 use Rattle.bounded.specs.Items.{items}
-use Rattle.tokens.specs.declared.name.Name.{Name}
-use Rattle.vocabulary.specs.Vocabularies.{Vocabulary, names, Consistent}
+use Rattle.vocabulary.specs.Vocabularies.{Consistent}
 use Rattle.vocabulary.specs.Models.{vocabulary_of}
 use Rattle.vocabulary.proofs.Lookups.{names-length}
 use Rattle.vocabulary.proofs.Calls.{consistent, settled_past, settled_at, settle_keeps, fixed_arities}
