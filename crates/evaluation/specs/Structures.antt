@@ -1,6 +1,6 @@
 -- A structure says what symbols and variables stand for, at one kind of value; it gives every term a value.
 use Rattle.std.specs.Prelude.{◌≡◌, ℕ, ◌-◌, Bool, true, cond, List, [], ◌∷◌, take, drop, Some, None, Option, nat_lt, slice_index}
-use Rattle.std.specs.List.{AllByRecursion as All}
+use Rattle.std.specs.List.{AllByRecursion}
 use Rattle.terms.specs.Codes.{arity}
 use Rattle.terms.specs.Terms.{Term, Terms, Term.var, Term.app, Terms.none, Terms.more}
 
@@ -32,7 +32,7 @@ tested within v = cond (within v) (Some v) None
 
 -- each value passes a test
 abbrev pub Every : {V : Type 0} → (V → Bool) → List V → Type 0
-Every p vs = All (λ v. p v ≡ true) vs
+Every p vs = AllByRecursion (λ v. p v ≡ true) vs
 
 -- the value of the term that begins with a code, from the values of the terms behind the code, the nearest first
 abbrev pub applied : {V : Type 0} → Structure V → List ℕ → ℕ → List V → V

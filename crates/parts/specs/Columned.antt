@@ -1,7 +1,7 @@
 -- Vectors and numbers are made as a part says, entry by entry.
 use Rattle.std.specs.Prelude.{◌≡◌, ℕ, zero, suc, ◌+◌, ◌*◌, ◌<◌, ◌≤◌, Bool, true, false, cond, ◌&&◌, T, leb, ◌≢◌, List, [], ◌∷◌, map, length, get_or, drop, Some, None, ◌==◌, nat_le, nat_lt, slice_index, slice_index_or, slice_set, refl}
 use Rattle.std.proofs.Common.{sym, ap, ◌∙◌, subst, inl, inr, mul-le-mul, add-one, arith, leb→le, le→leb, get_or-set_same, get_or-set_other, below_more}
-use Rattle.std.specs.List.{range_with_len, AllByRecursion as All}
+use Rattle.std.specs.List.{range_with_len, AllByRecursion}
 use Rattle.std.proofs.ByRecursion.{All-weaker}
 use Rattle.std.proofs.lemmas.List.FromFn.{get_or-map-range_with_len, fill_by_all}
 use Rattle.std.proofs.lemmas.List.{drop_more, drop_all}
@@ -54,7 +54,7 @@ weighed-done P e f i vs n h = ap (λ l. weighed P f n (map e l) i) (drop_all n v
 pub product_small : (a v : ℕ) → a ≤ 255 → v ≤ reach → a * v ≤ 255 * reach
 product_small a v h k = mul-le-mul h k
 
-pub vectors_near : (P : Part) (vs : List (List ℕ)) → Every (vector_columns P).within vs → All (VectorNear P.dim) vs
+pub vectors_near : (P : Part) (vs : List (List ℕ)) → Every (vector_columns P).within vs → AllByRecursion (VectorNear P.dim) vs
 vectors_near P vs h =
     All-weaker (λ v. vector_near P (vector v) ≡ true) (VectorNear P.dim)
     (λ v e j l. leb→le (slice_index v j) reach (every-at P.dim (λ i. leb (slice_index v i) reach) (held _ e) j l)) vs h

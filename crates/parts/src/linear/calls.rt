@@ -1,6 +1,6 @@
 // What is made, told and reckoned of a linear part.
 ghost use Rattle.std.specs.Prelude.{◌≡◌, ◌*◌, ◌<◌, ◌≤◌, max, [], map, length, if◌then◌else◌, nat_eq, nat_lt, slice_index, slice_index_or, refl};
-ghost use Rattle.std.specs.List.{AllByRecursion as All};
+ghost use Rattle.std.specs.List.{AllByRecursion};
 ghost use Rattle.terms.specs.Models.{arities_of};
 ghost use Rattle.algebras.specs.Meanings.{reach};
 ghost use Rattle.interpretations.specs.Numbers.{every};
@@ -126,7 +126,7 @@ impl LinearPart {
     fn weigh(&self, symbol: usize, args: &[u64]) -> u64
         requires known { symbol < 32 }
         requires few { length args.now ≤ 4 }
-        requires small { All (λ n. n ≤ reach) args.now }
+        requires small { AllByRecursion (λ n. n ≤ reach) args.now }
         ensures sum { result ≡ weighed (linear_of self.now) symbol 0 (map number args.now) 0 }
         ensures bound { result ≤ 1020 * reach }
     {

@@ -1,6 +1,6 @@
 // What is made, told and reckoned of a matrix part.
 ghost use Rattle.std.specs.Prelude.{◌≡◌, ◌*◌, ◌<◌, ◌≤◌, ltb, [], map, length, get_or, if◌then◌else◌, nat_eq, slice_index, slice_index_or, refl};
-ghost use Rattle.std.specs.List.{AllByRecursion as All};
+ghost use Rattle.std.specs.List.{AllByRecursion};
 ghost use Rattle.terms.specs.Models.{arities_of};
 ghost use Rattle.algebras.specs.Meanings.{reach};
 ghost use Rattle.interpretations.specs.Numbers.{total, every};
@@ -97,7 +97,7 @@ impl MatrixPart {
         requires known { symbol < 32 }
         requires inside { row < 4 }
         requires few { length args.now ≤ 4 }
-        requires small { All (VectorNear self.now.dimension) args.now }
+        requires small { AllByRecursion (VectorNear self.now.dimension) args.now }
         ensures sum { result ≡ weighed (matrix_of self.now) symbol 0 (map vector args.now) row }
         ensures bound { result ≤ 4080 * reach }
     {
