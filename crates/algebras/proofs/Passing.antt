@@ -3,7 +3,6 @@ use Rattle.std.proofs.Common.{◌≡◌, ℕ, zero, suc, ◌+◌, ◌<◌, ◌�
 use Rattle.std.proofs.lemmas.List.{drop_more, at_drop_all}
 use Rattle.terms.specs.declared.rule.Rule as kept
 use Rattle.terms.specs.declared.system.System.{System}
-use Rattle.terms.specs.Terms.{over}
 use Rattle.terms.specs.Rules.{Rule, rules_over, Numbered}
 use Rattle.terms.specs.Shapes.{is_rule, rule_of}
 use Rattle.terms.specs.Models.{Sides, sides_of, all_sides, all_rules}

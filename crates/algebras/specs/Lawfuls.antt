@@ -1,5 +1,5 @@
 -- The empty part is lawful, and a sum is by the laws of the two below.
-use Rattle.std.specs.Prelude.{ℕ, ◌+◌, ◌&&◌, ◌||◌, leb, Some, None, Option}
+use Rattle.std.specs.Prelude.{ℕ, ◌+◌, ◌&&◌, ◌||◌, Some, None, Option}
 use Rattle.std.proofs.Common.{inl, inr, arith, leb→le}
 use Rattle.terms.specs.Terms.{size}
 use Rattle.terms.proofs.Booleans.{fst_of, snd_of, one_of}

@@ -12,7 +12,7 @@ use Rattle.evaluation.specs.Structures.{near}
 use Rattle.evaluation.specs.Replies.{ready, evaluated}
 use Rattle.evaluation.proofs.Evaluated.{is_ready}
 use Rattle.interpretations.specs.Parts.{Part, height}
-use Rattle.interpretations.specs.Orders.{given, readable, weak, strict}
+use Rattle.interpretations.specs.Orders.{given, readable}
 use Rattle.forms.specs.declared.Comparison.{Comparison}
 use Rattle.forms.specs.Columns.{Columns, forms, single}
 use Rattle.forms.specs.Faithful.{Faithful, Limited}

@@ -1,5 +1,4 @@
 -- The pile of a certificate: the sum of two sums of its four parts.
-use Rattle.std.specs.Prelude.{List, [], ◌∷◌}
 use Rattle.algebras.specs.declared.sum.Sum.{Sum}
 use Rattle.piles.specs.declared.part.Part.{Part}
 

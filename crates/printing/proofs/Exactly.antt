@@ -1,5 +1,5 @@
 -- The law of printing: what is answered and written is what the trees say.
-use Rattle.std.proofs.Common.{◌≡◌, ℕ, ◌+◌, ◌<◌, ◌≤◌, Bool, true, false, cond, ◌&&◌, T, leb, List, [], ◌∷◌, ◌++◌, length, take, drop, is_ok, Ok, Err, Result, sym, refl, ap, ◌∙◌, subst, ap₂, subst₂, arith}
+use Rattle.std.proofs.Common.{◌≡◌, ℕ, ◌<◌, ◌≤◌, Bool, true, false, cond, T, List, [], ◌++◌, length, drop, is_ok, Ok, Err, Result, sym, refl, ap, ◌∙◌, subst, ap₂, subst₂, arith}
 use Rattle.std.proofs.lemmas.List.{take_at, drop_at}
 use Rattle.std.proofs.lemmas.Bool.{leb-false}
 use Rattle.terms.specs.Terms.{Term, codes}
@@ -12,14 +12,14 @@ use Rattle.terms.proofs.Exactly.{is_term_of}
 use Rattle.vocabulary.specs.Vocabularies.{Vocabulary}
 use Rattle.vocabulary.specs.declared.names.Names.{Names}
 use Rattle.vocabulary.specs.Naming.{Naming, naming_of}
-use Rattle.reading.specs.Spelling.{over, words}
+use Rattle.reading.specs.Spelling.{over}
 use Rattle.reading.specs.Documents.{document, Phase.ended, start_term}
 use Rattle.reading.specs.Outcomes.{Outcome.accepted, outcome}
 use Rattle.reading.proofs.Texts.{term_text_exactly}
 use Rattle.printing.specs.declared.fault.PrintFault.{PrintFault}
 use Rattle.printing.specs.declared.fault.PrintFault.TheVariants.{NoTerm, TooShort}
 use Rattle.printing.specs.Texts.{text, spelled}
-use Rattle.printing.specs.Showing.{shown, all_named}
+use Rattle.printing.specs.Showing.{all_named}
 use Rattle.printing.specs.Replies.{is_printable, text_of, fits, print_reply, printed_memory}
 use Rattle.printing.specs.Laws.{Coded, Printed, Termless, Cramped, PrintedExactly}
 use Rattle.reading.proofs.Complete.{as_many, settled, over_signature}

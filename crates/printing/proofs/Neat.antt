@@ -1,7 +1,7 @@
 -- The text of a term is cut into the term's words again.
-use Rattle.std.proofs.Common.{◌≡◌, ℕ, suc, ◌+◌, ◌<◌, ◌≤◌, Bool, true, false, ◌&&◌, T, ltb, leb, List, [], ◌∷◌, ◌++◌, map, length, get_or, sym, refl, ap, ◌∙◌, subst, append_assoc, append-nil, arith, ltb→lt, leb→le}
+use Rattle.std.proofs.Common.{◌≡◌, ℕ, suc, ◌+◌, T, ltb, List, [], ◌∷◌, ◌++◌, map, length, sym, refl, ap, ◌∙◌, subst, append_assoc, append-nil, arith, ltb→lt, leb→le}
 use Rattle.tokens.specs.Bytes.{letter, all_letters, is_name}
-use Rattle.tokens.specs.Tokens.{Word, Word.lpar, Word.rpar, Word.comma, Word.named, Tok, tokens}
+use Rattle.tokens.specs.Tokens.{Word, Word.named, Tok, tokens}
 use Rattle.tokens.specs.Cuts.{Stops, Spelled, Spelled.open_bracket, Spelled.close_bracket, Spelled.a_comma, Spelled.a_name, Cut, Cut.at_end, Cut.token_next}
 use Rattle.tokens.proofs.Cuts.{tokenized}
 use Rattle.terms.specs.Terms.{Term, Terms, Term.var, Term.app, Terms.none, Terms.more}

@@ -1,6 +1,6 @@
 -- The walk over the codes of a term shows the term's words.
-use Rattle.std.proofs.Common.{◌≡◌, ℕ, suc, ◌+◌, ◌<◌, ◌≤◌, T, List, [], ◌∷◌, ◌++◌, length, get_or, Some, sym, refl, ap, ◌∙◌, append_assoc, append-nil, arith, ltb→lt}
-use Rattle.tokens.specs.Tokens.{Word, Word.lpar, Word.rpar, Word.comma, Word.named}
+use Rattle.std.proofs.Common.{◌≡◌, ℕ, suc, ◌+◌, T, List, [], ◌∷◌, ◌++◌, get_or, Some, sym, refl, ap, ◌∙◌, append_assoc, append-nil, arith, ltb→lt}
+use Rattle.tokens.specs.Tokens.{Word, Word.lpar, Word.comma, Word.named}
 use Rattle.terms.specs.Terms.{Term, Terms, Term.var, Term.app, Terms.none, Terms.more, count, codes, codes_all}
 use Rattle.terms.specs.Codes.{arity}
 use Rattle.terms.proofs.Booleans.{fst_of, snd_of}

@@ -1,12 +1,12 @@
 -- What holds of all names: each is a name of its own; and a term over the names is one over the signature whose codes
 -- have names.
-use Rattle.std.proofs.Common.{◌≡◌, ℕ, zero, suc, ◌+◌, ◌-◌, ◌<◌, ◌≤◌, Bool, true, false, cond, ◌&&◌, T, eqb, ltb, List, [], ◌∷◌, ◌++◌, length, get_or, is_some, Some, None, Option, sym, refl, ap, ◌∙◌, subst, ap₂, arith, eqb→eq, ltb→lt, lt→ltb}
+use Rattle.std.proofs.Common.{◌≡◌, ℕ, zero, suc, ◌+◌, ◌<◌, ◌≤◌, Bool, true, false, ◌&&◌, T, eqb, ltb, List, [], ◌∷◌, ◌++◌, length, get_or, is_some, Some, None, Option, sym, refl, subst, arith, ltb→lt, lt→ltb}
 use Rattle.bounded.specs.Items.{items}
 use Rattle.tokens.specs.Bytes.{is_name}
 use Rattle.tokens.specs.declared.name.Name.{Name}
 use Rattle.terms.specs.Terms.{Term, Terms, Term.var, Term.app, Terms.none, Terms.more, count, codes, codes_all}
 use Rattle.terms.specs.Terms as signed
-use Rattle.terms.proofs.Booleans.{both, fst_of, snd_of, held}
+use Rattle.terms.proofs.Booleans.{both, fst_of, snd_of}
 use Rattle.vocabulary.specs.declared.names.Names.{Names}
 use Rattle.vocabulary.specs.Vocabularies.{Vocabulary, names}
 use Rattle.vocabulary.specs.Naming.{Naming, naming_of}

@@ -1,5 +1,5 @@
 -- What a speller has left: the words that are still to come.
-use Rattle.std.specs.Prelude.{◌≡◌, ℕ, ◌≤◌, List, [], ◌∷◌, reverse, length, drop, Some, None, Option}
+use Rattle.std.specs.Prelude.{◌≡◌, ℕ, List, [], ◌∷◌, reverse, drop, Some, None, Option}
 use Rattle.bounded.specs.Items.{items}
 use Rattle.tokens.specs.Tokens.{Word, Word.lpar}
 use Rattle.vocabulary.specs.Naming.{Naming, naming_of}

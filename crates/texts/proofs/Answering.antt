@@ -1,15 +1,15 @@
 -- What the readers answer is what the text comes to.
-use Rattle.std.proofs.Common.{◌≡◌, ℕ, ◌<◌, ◌≤◌, T, List, [], length, get_or, Some, None, Ok, Err, Result, sym, refl, ap, ◌∙◌, subst, ap₂, arith}
+use Rattle.std.proofs.Common.{◌≡◌, ℕ, T, List, Ok, Err, sym, ap, ◌∙◌, subst, arith}
 use Rattle.bounded.specs.Items.{items}
 use Rattle.terms.specs.Codes.{is_term}
 use Rattle.terms.proofs.Booleans.{clash}
 use Rattle.vocabulary.specs.declared.names.Names.{Names}
-use Rattle.vocabulary.specs.Vocabularies.{Vocabulary, fixed_arities}
+use Rattle.vocabulary.specs.Vocabularies.{Vocabulary}
 use Rattle.vocabulary.specs.Naming.{Naming, naming_of}
 use Rattle.vocabulary.proofs.Fixing.{told_somes}
-use Rattle.reading.specs.Documents.{Document, document, Phase, Phase.closed, Phase.ended, rule_text, start_term}
-use Rattle.reading.specs.Outcomes.{Outcome, Outcome.accepted, Outcome.refused, outcome}
-use Rattle.reading.specs.Exactly.{TextExactly, TermTextExactly, RefusalStands}
+use Rattle.reading.specs.Documents.{Document, Phase.ended, rule_text, start_term}
+use Rattle.reading.specs.Outcomes.{Outcome.accepted, Outcome.refused, outcome}
+use Rattle.reading.specs.Exactly.{TermTextExactly, RefusalStands}
 use Rattle.reading.proofs.Complete.{Complete, complete_names, settled_fixed, settled, spelled_term, spelled_rules}
 use Rattle.reading.proofs.Texts.{text_exactly, term_text_exactly}
 use Rattle.reading.proofs.Standing.{refusal_stands}
@@ -20,8 +20,7 @@ use Rattle.reading.specs.declared.side.Side.{Side}
 use Rattle.texts.specs.declared.document.Phase as held
 use Rattle.texts.specs.declared.document.Phase.TheVariants as phases
 use Rattle.texts.specs.Documents.{phase_of}
-use Rattle.texts.specs.Faults.{FaultsIn}
-use Rattle.texts.specs.Systems.{Assembles, Said, rules_by, rules_reply, codes_in, term_by, term_reply}
+use Rattle.texts.specs.Systems.{Assembles, rules_by, rules_reply, codes_in, term_by, term_reply}
 
 -- a text that was accepted can be put together
 pub assembles : (bytes : List ℕ) (d : Document) → accepted d ≡ outcome rule_text bytes → Assembles d

@@ -1,5 +1,5 @@
 -- A system put together from the sides of its rules.
-use Rattle.std.proofs.Common.{◌≡◌, ℕ, zero, suc, ◌+◌, ◌<◌, ◌≤◌, Bool, true, false, ◌&&◌, T, eqb, List, [], ◌∷◌, ◌++◌, length, get_or, take, Some, None, Option, sym, refl, ap, ◌∙◌, subst, ap₂, arith, eqb→eq, length-take}
+use Rattle.std.proofs.Common.{◌≡◌, ℕ, zero, suc, ◌+◌, ◌<◌, ◌≤◌, T, eqb, List, [], ◌∷◌, ◌++◌, length, get_or, take, Some, sym, refl, ap, ◌∙◌, subst, ap₂, arith, eqb→eq, length-take}
 use lib.Dec.{eqb_refl}
 use Rattle.std.specs.Option.{option_map}
 use Rattle.std.specs.Str.{bytes_eq}
@@ -8,7 +8,7 @@ use Rattle.bounded.specs.Items.{items}
 use Rattle.terms.specs.declared.rule.Rule.{Rule}
 use Rattle.terms.specs.Shapes.{is_proper, is_rule}
 use Rattle.terms.specs.Models.{Sides, sides_of, all_sides, all_rules}
-use Rattle.terms.proofs.Booleans.{both, fst_of, snd_of, clash}
+use Rattle.terms.proofs.Booleans.{both, fst_of, snd_of}
 use Rattle.vocabulary.specs.Vocabularies.{Vocabulary, fixed_arities}
 use Rattle.vocabulary.specs.Naming.{Naming, naming_reply}
 use Rattle.texts.specs.declared.document.RuleCodes.{RuleCodes}

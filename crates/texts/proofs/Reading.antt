@@ -1,15 +1,14 @@
 -- A text in the course of being read: what is left comes to what the whole comes to.
-use Rattle.std.proofs.Common.{◌≡◌, ℕ, ◌+◌, ◌<◌, ◌≤◌, Bool, true, false, cond, not, List, [], ◌∷◌, length, Some, None, Option, sym, refl, ap, ◌∙◌, subst, ap₂, arith}
+use Rattle.std.proofs.Common.{◌≡◌, ℕ, ◌<◌, Bool, true, false, List, [], ◌∷◌, length, Some, None, Option, sym, refl, ap, ◌∙◌, arith}
 use Rattle.std.proofs.lemmas.Bool.{cond-true, cond-false}
 use Rattle.terms.proofs.Booleans.{clash}
 use Rattle.tokens.specs.Tokens.{Word, Tok, tokens}
 use Rattle.tokens.specs.Lexing.{Taken}
 use Rattle.vocabulary.specs.declared.flaw.Flaw.{Flaw}
 use Rattle.vocabulary.specs.declared.flaw.Flaw.TheVariants.{Misplaced}
-use Rattle.reading.specs.Sides.{is_open}
 use Rattle.reading.specs.Documents.{Document, Move, Move.to, Move.flawed, move, may_end}
 use Rattle.reading.specs.Holding.{Holds}
-use Rattle.reading.specs.Outcomes.{Outcome, Outcome.accepted, Outcome.refused, bare_tokens, run_on, run, outcome}
+use Rattle.reading.specs.Outcomes.{Outcome.accepted, Outcome.refused, bare_tokens, run_on, run, outcome}
 use Rattle.reading.proofs.Held.{held_on}
 use Rattle.texts.specs.Documents.{token_move}
 use Rattle.texts.specs.Readings.{bare_word, no_word}

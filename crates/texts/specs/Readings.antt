@@ -1,11 +1,10 @@
 -- What the readers answer.
-use Rattle.std.specs.Prelude.{ℕ, Bool, true, false, not, List, Some, None, Ok, Err, Option, Result}
+use Rattle.std.specs.Prelude.{Bool, true, false, not, Some, None, Ok, Err, Option, Result}
 use Rattle.tokens.specs.Tokens.{Word}
 use Rattle.reading.specs.Sides.{is_open}
 use Rattle.reading.specs.Documents.{Document}
 use Rattle.reading.specs.Outcomes.{Outcome, Outcome.accepted, Outcome.refused}
 use Rattle.texts.specs.declared.fault.TextFault.{TextFault}
-use Rattle.texts.specs.declared.fault.Source.{Source}
 
 -- an answer, with the document that is left
 abbrev pub outcome_of : Result (Unit {0}) TextFault → Document → Outcome

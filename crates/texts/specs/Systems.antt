@@ -1,5 +1,5 @@
 -- What rule texts and start terms are read as.
-use Rattle.std.specs.Prelude.{◌≡◌, ℕ, Bool, true, ◌&&◌, T, List, [], ◌∷◌, length, Some, Ok, Err, Result}
+use Rattle.std.specs.Prelude.{◌≡◌, ℕ, Bool, true, ◌&&◌, T, List, [], ◌∷◌, Some, Ok, Err, Result}
 use Rattle.terms.specs.Codes.{is_term}
 use Rattle.terms.specs.Shapes.{is_proper}
 use Rattle.terms.specs.Models.{Sides, all_rules}

@@ -1,17 +1,12 @@
 -- A trip so far, and one step further.
 use Rattle.std.proofs.Common.{◌≡◌, ℕ, ◌+◌, List, [], ◌∷◌, ◌++◌, length, sym, refl, ap, ◌∙◌, subst, arith, length-append}
-use Rattle.terms.specs.declared.system.System as held
-use Rattle.terms.specs.Terms.{Term}
-use Rattle.terms.specs.Rules.{Rule}
 use Rattle.terms.specs.Steps.{Step, Derivation, Derivation.done}
 use Rattle.terms.specs.Systems.{rules_of}
 use Rattle.terms.proofs.Derivations.{one_more}
 use Rattle.rewriting.specs.declared.subject.Subject.{Subject}
 use Rattle.rewriting.specs.Subjects.{rules_in, term_in}
-use Rattle.trip.specs.declared.follow.Advance.{Advance}
 use Rattle.trip.specs.declared.follow.Advance.TheVariants as advance
 use Rattle.trip.specs.declared.follow.End.{End}
-use Rattle.trip.specs.declared.follow.Trip.{Trip}
 use Rattle.trip.specs.Trips.{Advanced, Ended, Followed}
 
 pub record Following (s now : Subject) (steps : ℕ) : Type 0 where

@@ -1,5 +1,4 @@
-use Rattle.std.proofs.Common.{◌≡◌, ℕ, Bool, true, false, length, get_or, is_some, Some, None, Option, sym, ap, ◌∙◌}
-use Rattle.std.specs.Option.{option_map}
+use Rattle.std.proofs.Common.{true, false, sym, ◌∙◌}
 use Rattle.vocabulary.specs.Models.{vocabulary_of}
 use Rattle.printing.proofs.Stepping.{some_mapped, named_next, named_end}
 use Rattle.printing.proofs.print.are_named.Goals as goal

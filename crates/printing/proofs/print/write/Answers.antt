@@ -1,4 +1,4 @@
-use Rattle.std.proofs.Common.{◌≡◌, ℕ, ◌+◌, ◌≤◌, length, sym, ap, subst, arith}
+use Rattle.std.proofs.Common.{sym, ap, subst, arith}
 use Rattle.printing.specs.Texts.{text}
 use Rattle.printing.specs.Spellers.{words_left}
 use Rattle.printing.proofs.Writing.{Written, first_bytes, first_length, fewer, written_none, written_room, written_more, written_length, written_all}

@@ -1,4 +1,4 @@
-use Rattle.std.proofs.Common.{◌≡◌, ◌∷◌, refl, ap₂}
+use Rattle.std.proofs.Common.{◌∷◌, refl, ap₂}
 use Rattle.text_cases.proofs.list.worked_cases.Goals as goal
 
 pub returns : goal.returns

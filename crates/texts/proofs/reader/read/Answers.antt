@@ -1,4 +1,4 @@
-use Rattle.std.proofs.Common.{◌≡◌, sym, refl, ◌∙◌}
+use Rattle.std.proofs.Common.{sym, refl, ◌∙◌}
 use Rattle.tokens.specs.Lexing.{word_of}
 use Rattle.tokens.specs.Lexers.{rest_of, end_of}
 use Rattle.texts.specs.Documents.{document_of}

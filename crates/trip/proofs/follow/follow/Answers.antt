@@ -1,8 +1,8 @@
-use Rattle.std.proofs.Common.{◌≡◌, ℕ, sym, refl, subst, arith}
+use Rattle.std.proofs.Common.{◌≡◌, refl, subst, arith}
 use Rattle.trip.specs.declared.follow.End.TheVariants as end
 use Rattle.rewriting.specs.Subjects.{rules_in, term_in}
 use Rattle.trip.specs.Trips.{Followed}
-use Rattle.trip.proofs.Following.{Following, starts, goes_on, ends}
+use Rattle.trip.proofs.Following.{starts, goes_on, ends}
 use Rattle.trip.proofs.follow.follow.Goals as goal
 
 pub loop-steps-init : goal.loop-steps-init

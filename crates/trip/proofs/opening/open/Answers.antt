@@ -1,4 +1,4 @@
-use Rattle.std.proofs.Common.{◌≡◌, T, sym, ap, ◌∙◌, subst, ap₂}
+use Rattle.std.proofs.Common.{T, sym, subst, ap₂}
 use Rattle.bounded.specs.Items.{items}
 use Rattle.terms.specs.Codes.{is_term}
 use Rattle.terms.specs.Systems.{signature_of}

@@ -1,4 +1,4 @@
-use Rattle.std.proofs.Common.{◌≡◌, ap, ◌∙◌}
+use Rattle.std.proofs.Common.{ap, ◌∙◌}
 use Rattle.bounded.specs.Items.{items}
 use Rattle.tokens.specs.Lexing.{word_of}
 use Rattle.vocabulary.specs.Models.{vocabulary_of}

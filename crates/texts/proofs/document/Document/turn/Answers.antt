@@ -1,4 +1,4 @@
-use Rattle.std.proofs.Common.{◌≡◌, sym, ◌∙◌}
+use Rattle.std.proofs.Common.{sym, ◌∙◌}
 use Rattle.bounded.specs.Items.{items}
 use Rattle.vocabulary.specs.Models.{vocabulary_of}
 use Rattle.reading.specs.Models.{state_of}

@@ -1,5 +1,4 @@
-use Rattle.std.proofs.Common.{◌≡◌, T, length, sym, ap, ◌∙◌, subst, arith}
-use Rattle.bounded.specs.Items.{items}
+use Rattle.std.proofs.Common.{T, length, sym, ap, ◌∙◌, subst, arith}
 use Rattle.bounded.proofs.Lengths.{items_few}
 use Rattle.terms.specs.Models.{all_rules}
 use Rattle.terms.specs.Systems.{System}

@@ -1,7 +1,7 @@
-use Rattle.std.proofs.Common.{◌≡◌, T, sym, refl, ap, ◌∙◌, subst, ap₂}
+use Rattle.std.proofs.Common.{T, sym, ap, ◌∙◌, subst, ap₂}
 use Rattle.bounded.specs.Items.{items}
 use Rattle.terms.specs.Shapes.{is_proper}
-use Rattle.terms.specs.Models.{Sides, sides_of, all_sides}
+use Rattle.terms.specs.Models.{sides_of, all_sides}
 use Rattle.terms.proofs.Booleans.{told_ok, told_err}
 use Rattle.texts.specs.declared.document.RuleCodes.{RuleCodes}
 use Rattle.reading.proofs.Pushes.{pushed-items}
