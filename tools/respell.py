@@ -53,7 +53,7 @@ def camel(name):
     return "".join(p[:1].upper() + p[1:] for p in re.split(r"[-_]", name))
 
 
-def respelled(found):
+def respelled(found, fields):
     defined = {n.replace("-", "_") for n, d in found.items() if d and not n[0].isupper()} | LIBRARY
     out = {}
     for name, definition in found.items():
@@ -65,7 +65,7 @@ def respelled(found):
         if new[0].isupper() and definition:
             out[name] = camel(new)
             continue
-        if definition:
+        if definition or name in fields:
             out[name] = new.replace("-", "_")
             continue
         out[name] = lemma(new.split("-"), defined)
@@ -134,8 +134,8 @@ def record_fields():
 
 def main():
     found = declared()
-    names = respelled(found)
     fields = record_fields()
+    names = respelled(found, fields)
     taken = {}
     for old, new in names.items():
         taken.setdefault(new, []).append(old)

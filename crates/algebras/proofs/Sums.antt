@@ -107,5 +107,5 @@ module _ (A B : Meaning) where
       e ∙ ap₂ (λ x y. joined_orders (both_told x y)) ea eb
       ∙ ap joined_orders (both_answered fault.RuleOutOfReach (λ f. refl) (A.fits sig) (B.fits sig) (is_rule sig l r) (A.readable x) (B.readable x) (order_of A x) (order_of B x))
       ∙ orders (fit && is_rule sig l r) (A.readable x && B.readable x) (order_of A x) (order_of B x) (order_of (sum_means A B) x)
-      (λ h. order-joined (A.strict x) (B.strict x) (A.weak x) (B.weak x) (lawA.strict-weak sig (fst_of (A.fits sig) _ (fst_of fit _ h)) x (over (snd_of fit _ h)))
-      (lawB.strict-weak sig (snd_of (A.fits sig) _ (fst_of fit _ h)) x (over (snd_of fit _ h))))
+      (λ h. order-joined (A.strict x) (B.strict x) (A.weak x) (B.weak x) (lawA.strict_weak sig (fst_of (A.fits sig) _ (fst_of fit _ h)) x (over (snd_of fit _ h)))
+      (lawB.strict_weak sig (snd_of (A.fits sig) _ (fst_of fit _ h)) x (over (snd_of fit _ h))))

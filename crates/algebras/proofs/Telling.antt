@@ -65,7 +65,7 @@ module _ (A : Meaning) (law : Lawful A) (sig : List ℕ) (few : length sig ≤ 3
         record { fits = held _ f; read = rule_reading sig few l r (held _ i); readable = held _ a; strict_is = s; weak_is = w }
     order_told true true true true false f i a s w =
         let o = (rule_reading sig few l r (held _ i)).over_signature in
-        absurd (never (A.weak (rule_of sig l r)) (law.strict-weak sig (held _ f) (rule_of sig l r) o (held _ s)) w)
+        absurd (never (A.weak (rule_of sig l r)) (law.strict_weak sig (held _ f) (rule_of sig l r) o (held _ s)) w)
     order_told true true true false true f i a s w =
         record { fits = held _ f; read = rule_reading sig few l r (held _ i); readable = held _ a; strict_is = s; weak_is = w }
     order_told true true true false false f i a s w =

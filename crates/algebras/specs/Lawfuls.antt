@@ -9,7 +9,7 @@ use Rattle.algebras.specs.Layers.{empty_means, sum_means, add_ceilings}
 pub empty_lawful : Lawful empty_means
 empty_lawful = record {
   reached = λ sig f t o g. omega arith;
-  strict-weak = λ sig f r ok s. tt;
+  strict_weak = λ sig f r ok s. tt;
   keeps = λ sig f r ok w c σ l r'. omega arith;
   lowers = λ sig f r ok s c σ l r'. absurd s;
   ceiled = λ sig f t o. omega arith;
@@ -23,7 +23,7 @@ within_sum g h (Some c) (Some d) x y = omega arith
 pub sum_lawful : (A B : Meaning) → Lawful A → Lawful B → Lawful (sum_means A B)
 sum_lawful A B a b = record {
   reached = λ sig f t o g. leb→le (A.height t + B.height t) reach (snd_of (A.given t && B.given t) _ g);
-  strict-weak = λ sig f r ok s. fst_of (A.weak r && B.weak r) (A.strict r || B.strict r) s;
+  strict_weak = λ sig f r ok s. fst_of (A.weak r && B.weak r) (A.strict r || B.strict r) s;
   keeps = λ sig f r ok w c σ l r'.
       let x = a.keeps sig (fst_of (A.fits sig) _ f) r ok (fst_of (A.weak r) _ w) c σ l r' in
       let y = b.keeps sig (snd_of (A.fits sig) _ f) r ok (snd_of (A.weak r) _ w) c σ l r' in

@@ -28,7 +28,7 @@ pub record Lawful (A : Meaning) : Type 0 where
   -- a given height is within reach
   pub reached : (sig : List ℕ) → T (A.fits sig) → (t : Term) → T (over sig t) → T (A.given t) → A.height t ≤ reach
   -- a strict rule is weak
-  pub strict-weak : (sig : List ℕ) → T (A.fits sig) → (r : Rule) → T (rule_over sig r) → T (A.strict r) → T (A.weak r)
+  pub strict_weak : (sig : List ℕ) → T (A.fits sig) → (r : Rule) → T (rule_over sig r) → T (A.strict r) → T (A.weak r)
   -- an instance of a weak rule's left side, replaced inside any term by that of the right, does not raise the height
   pub keeps : (sig : List ℕ) → T (A.fits sig) → (r : Rule) → T (rule_over sig r) → T (A.weak r)
       → (c : Context) (σ : ℕ → Term) → T (over sig (plug c (under σ r.left))) → T (over sig (plug c (under σ r.right)))

@@ -91,7 +91,7 @@ module _ (P : Part) where
     pub part_lawful : (ceiling : ℕ → Option ℕ) → Ceiled P ceiling → Lawful (part_means P ceiling)
     part_lawful ceiling c = record {
       reached = λ sig f t o g. leb→le (height P t) reach (every-at P.dim (λ i. leb (value P zeros t i) reach) (throughout_top (value_near P) t g) 0 ok.some);
-      strict-weak = λ sig f r o s. fst_of (weak P r) _ s;
+      strict_weak = λ sig f r o s. fst_of (weak P r) _ s;
       keeps = λ sig f r o w x σ a b. let e = same_list_eq sig P.sig f in keeps r (subst (λ s. T (rule_over s r)) e o) x σ (subst (λ s. T (over s (plug x (under σ r.right)))) e b) w;
       lowers = λ sig f r o w x σ a b. let e = same_list_eq sig P.sig f in lowers r (subst (λ s. T (rule_over s r)) e o) x σ (subst (λ s. T (over s (plug x (under σ r.right)))) e b) w;
       ceiled = λ sig f t o. c t (subst (λ s. T (over s t)) (same_list_eq sig P.sig f) o);

@@ -1,6 +1,6 @@
 // Any algebra without its ceilings: its laws are argued from those below.
 ghost use Rattle.plugin.specs.Layer.{uncapped_means};
-ghost use Rattle.std.proofs.Common.{rules};
+ghost use Rattle.plugin.specs.Lawful.{uncapped_lawful};
 
 use algebras::{Algebra, AlgebraFault, Order};
 use terms::{MOST_TERM, Signature};
@@ -13,7 +13,7 @@ pub struct Uncapped<A> {
 impl<A: Algebra> Algebra for Uncapped<A> {
     ghost means = { λ s. uncapped_means (A.Algebra.means s.below) };
 
-    ghost lawful = { Prim.search rules };
+    ghost lawful = { λ s. uncapped_lawful (A.Algebra.means s.below) (A.Algebra.lawful s.below) };
 
     fn fits(&self, signature: &Signature) -> bool {
         self.below.fits(signature)

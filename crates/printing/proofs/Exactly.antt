@@ -72,7 +72,7 @@ module _ (n : Naming) (s : Sound n) where
           told = ap length e;
           front = take_at bytes (drop (length bytes) out) (length bytes) refl ∙ e;
           rest = drop_at bytes (drop (length bytes) out) (length bytes) refl;
-          tokens-back = words_back n s x.term x.named;
+          tokens_back = words_back n s x.term x.named;
           reads_back = read_back cs x;
         }
 

@@ -25,7 +25,7 @@ pub record Printed (v : Vocabulary) (cs before : List ℕ) (n : ℕ) (after : Li
   pub told : n ≡ length (spelled v of.term)
   pub front : take n after ≡ spelled v of.term
   pub rest : drop n after ≡ drop n before
-  pub tokens-back : spell (tokens (spelled v of.term)) ≡ words v of.term
+  pub tokens_back : spell (tokens (spelled v of.term)) ≡ words v of.term
   pub reads_back : outcome (start_term v) (spelled v of.term) ≡ accepted (document v [] (ended cs))
 
 -- no term over the names within the limit has these codes, and nothing is written

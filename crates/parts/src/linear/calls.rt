@@ -11,8 +11,7 @@ ghost use Rattle.parts.specs.Vectors.{number, number_columns};
 ghost use Rattle.parts.specs.Views.{linear_of};
 ghost use Rattle.parts.specs.Making.{Made};
 ghost use Rattle.parts.specs.Columned.{number_faithful, number-unit_within};
-ghost use Rattle.std.proofs.Common.{arith, rules};
-ghost use Rattle.parts.specs.MakingLemmas.{limited_from};
+ghost use Rattle.parts.specs.Lawfuls.{linear_limited};
 
 use crate::linear::LinearPart;
 use algebras::REACH;
@@ -149,9 +148,9 @@ impl Reckoning for LinearPart {
 
     ghost faithful = { λ p. number_faithful (arities_of p.signature) p.constants p.factors };
 
-    ghost limited = { λ p. limited_from p.signature (linear_of p) refl (omega arith) (omega arith) };
+    ghost limited = { linear_limited };
 
-    ghost zeros = { first_of (Prim.search rules, Prim.grind (arith, Self.row.coded.inj)) };
+    ghost zeros = { λ p. refl };
 
     ghost units = { λ p v k. number-unit_within v k };
 

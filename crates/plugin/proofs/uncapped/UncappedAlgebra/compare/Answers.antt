@@ -1,6 +1,6 @@
 use Rattle.algebras.proofs.Telling.{compared_law}
 use Rattle.plugin.specs.Layer.{uncapped_means}
-use Rattle.plugin.proofs.Lawful.{uncapped_lawful}
+use Rattle.plugin.specs.Lawful.{uncapped_lawful}
 use Rattle.plugin.proofs.uncapped.UncappedAlgebra.compare.Goals as goal
 
 pub returns : goal.returns

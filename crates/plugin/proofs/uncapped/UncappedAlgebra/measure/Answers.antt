@@ -1,6 +1,6 @@
 use Rattle.algebras.proofs.Telling.{measured_law}
 use Rattle.plugin.specs.Layer.{uncapped_means}
-use Rattle.plugin.proofs.Lawful.{uncapped_lawful}
+use Rattle.plugin.specs.Lawful.{uncapped_lawful}
 use Rattle.plugin.proofs.uncapped.UncappedAlgebra.measure.Goals as goal
 
 pub returns : goal.returns
