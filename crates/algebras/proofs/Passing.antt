@@ -1,18 +1,14 @@
 -- A review by induction over the rules, and what it means.
-use Rattle.std.proofs.Common.{◌≡◌, ℕ, zero, suc, ◌+◌, ◌<◌, ◌≤◌, Bool, true, false, cond, T, List, [], ◌∷◌, length, get_or, drop, Ok, Err, Result, sym, refl, ap, ◌∙◌, subst, ap₂, arith}
-use Rattle.std.proofs.lemmas.List.{drop_more, at_drop_all}
-use Rattle.terms.specs.declared.rule.Rule as kept
+use Rattle.std.proofs.Common.{◌≡◌, ℕ, zero, suc, ◌+◌, ◌<◌, Bool, true, false, cond, T, List, [], ◌∷◌, Ok, Err, Result, sym, refl, subst, arith}
 use Rattle.terms.specs.declared.system.System.{System}
 use Rattle.terms.specs.Rules.{Rule, rules_over, Numbered}
 use Rattle.terms.specs.Shapes.{is_rule, rule_of}
-use Rattle.terms.specs.Models.{Sides, sides_of, all_sides, all_rules}
+use Rattle.terms.specs.Models.{Sides, all_sides, all_rules}
 use Rattle.terms.specs.Systems.{signature_of, listed_rules, rules_from, rules_of}
 use Rattle.terms.proofs.Booleans.{both, fst_of, snd_of, held, cond_on}
 use Rattle.terms.proofs.Made.{rules_read}
 use Rattle.terms.proofs.Scans.{few_symbols}
-use Rattle.algebras.specs.declared.fault.AlgebraFault.{AlgebraFault}
 use Rattle.algebras.specs.declared.fault.AlgebraFault.TheVariants as fault
-use Rattle.algebras.specs.declared.order.Order.{Order}
 use Rattle.algebras.specs.declared.reviewing.ReviewFault.{ReviewFault}
 use Rattle.algebras.specs.declared.reviewing.ReviewFault.TheVariants as flaw
 use Rattle.algebras.specs.Meanings.{Meaning, Lawful}
@@ -119,34 +115,3 @@ review_law A law s r e = subst (Reviewed A sig (rules_of s)) (sym e) (go (A.fits
         let fine = rules_read (signature_of s) (few_symbols (signature_of s) s.signature.limited) (all_sides (listed_rules s)) s.over in
         let fit = held (A.fits (signature_of s)) p in
         reviewed A (signature_of s) fit law (rules_of s) fine (rules_reply A (signature_of s) 0 (all_sides (listed_rules s))) (found A (signature_of s) fit 0 (all_sides (listed_rules s)) s.over)
-
--- the loop over rules: after i of them, the whole answer is that of the others
-module _ (A : Meaning) (sig : List ℕ) (rs : List kept.Rule) (i : ℕ) where
-  abbrev Others : ℕ → Type 0
-  Others k = rules_reply A sig 0 (all_sides rs) ≡ rules_reply A sig k (all_sides (drop k rs))
-
-  module _ (so_far : Others i) where
-    -- one turn, with what the calls in it answer
-    module _ (x : kept.Rule) (h : i < length rs) (e : x ≡ get_or rs i x) (l r : List ℕ) (el : l ≡ (sides_of x).left) (er : r ≡ (sides_of x).right)
-        (told : Result Order AlgebraFault) (et : told ≡ compared A sig l r) where
-      turn : (o : Result (Unit {0}) ReviewFault) → o ≡ judged i told → rules_reply A sig 0 (all_sides rs) ≡ and_then o (rules_reply A sig (i + 1) (all_sides (drop (i + 1) rs)))
-      turn o eo =
-          let later = rules_reply A sig (i + 1) (all_sides (drop (i + 1) rs)) in
-          let cut : drop i rs ≡ x ∷ drop (i + 1) rs = drop_more rs i x h ∙ ap (λ y. y ∷ drop (i + 1) rs) (sym e) in
-          let same : compared A sig (sides_of x).left (sides_of x).right ≡ told = sym (et ∙ ap₂ (compared A sig) el er) in
-          so_far ∙ ap (λ ys. rules_reply A sig i (all_sides ys)) cut ∙ ap (λ a. and_then (judged i a) later) same ∙ ap (λ a. and_then a later) (sym eo)
-
-      pub goes_on : (o : Result (Unit {0}) ReviewFault) (u : Unit {0}) → o ≡ judged i told → o ≡ Ok u → Others (i + 1)
-      goes_on o u eo is = turn o eo ∙ ap (λ a. and_then a (rules_reply A sig (i + 1) (all_sides (drop (i + 1) rs)))) is
-
-      pub halts : (o r : Result (Unit {0}) ReviewFault) (e f : ReviewFault) → o ≡ judged i told → o ≡ Err e → r ≡ Err f → f ≡ e → r ≡ rules_reply A sig 0 (all_sides rs)
-      halts o r e f eo is ir same = ir ∙ ap Err same ∙ sym (turn o eo ∙ ap (λ a. and_then a (rules_reply A sig (i + 1) (all_sides (drop (i + 1) rs)))) is)
-
-    pub ends : length rs ≤ i → Ok tt ≡ rules_reply A sig 0 (all_sides rs)
-    ends h = sym (so_far ∙ at_drop_all (λ ys. rules_reply A sig i (all_sides ys)) rs i h)
-
--- the review is that of the rules, where the algebra fits
-pub review_fit : (A : Meaning) (sig : List ℕ) (rs : List kept.Rule) (sig' : List ℕ) (rs' : List kept.Rule) (r : Result (Unit {0}) ReviewFault) → sig' ≡ sig → rs' ≡ rs → true ≡ A.fits sig'
-    → r ≡ rules_reply A sig' 0 (all_sides rs') → r ≡ review_reply A sig (all_sides rs)
-review_fit A sig rs sig' rs' r es er f e =
-    e ∙ ap₂ (λ s x. rules_reply A s 0 (all_sides x)) es er ∙ ap (λ b. cond b (rules_reply A sig 0 (all_sides rs)) (Err flaw.Unfit)) (f ∙ ap A.fits es)

@@ -44,6 +44,10 @@ compared A sig l r =
 abbrev pub is_size : ℕ → Bool
 is_size n = nat_le 1 n && nat_le n most_term
 
+-- whether it may, as an answer
+abbrev pub size_reply : ℕ → Result (Unit {0}) AlgebraFault
+size_reply n = cond (is_size n) (Ok tt) (Err fault.SizeOutOfRange)
+
 -- a ceiling, where it is within reach, or none
 abbrev pub ceiling_told : Option ℕ → Result (Option ℕ) AlgebraFault
 ceiling_told None = Ok None

@@ -2,12 +2,12 @@
 ghost use Rattle.std.specs.Prelude.{◌≡◌};
 ghost use Rattle.terms.specs.Models.{arities_of};
 ghost use Rattle.algebras.specs.Meanings.{Meaning, Lawful};
-ghost use Rattle.algebras.specs.Replies.{measured, compared, ceiling_reply};
+ghost use Rattle.algebras.specs.Replies.{measured, compared, size_reply, ceiling_reply};
 ghost use Rattle.algebras.specs.Laws.{MeasuredExactly, ComparedExactly, CeilingExactly};
 
 use crate::fault::AlgebraFault;
 use crate::order::Order;
-use terms::Signature;
+use terms::{MOST_TERM, Signature};
 
 pub trait Algebra {
     ghost means: { Self → Meaning };
@@ -36,4 +36,14 @@ pub trait Algebra {
         ensures exactly { CeilingExactly (means self.now) size result };
 
     ghost lawful: { (a : Self) → Lawful (means a) };
+}
+
+// Passes a size that a term within the limit may have.
+pub fn check_size(size: usize) -> Result<(), AlgebraFault>
+    ensures { result ≡ size_reply size }
+{
+    if size < 1 || size > MOST_TERM {
+        return Err(AlgebraFault::SizeOutOfRange);
+    }
+    Ok(())
 }

@@ -2,10 +2,10 @@
 ghost use Rattle.algebras.specs.Layers.{empty_means};
 ghost use Rattle.algebras.specs.Lawfuls.{empty_lawful};
 
-use crate::algebra::Algebra;
+use crate::algebra::{Algebra, check_size};
 use crate::fault::AlgebraFault;
 use crate::order::Order;
-use terms::{MOST_TERM, Signature};
+use terms::Signature;
 
 #[derive(Clone, Copy)]
 pub struct Empty {}
@@ -41,9 +41,7 @@ impl Algebra for Empty {
     }
 
     fn ceiling(&self, size: usize) -> Result<Option<u64>, AlgebraFault> {
-        if size < 1 || size > MOST_TERM {
-            return Err(AlgebraFault::SizeOutOfRange);
-        }
+        check_size(size)?;
         Ok(Some(0))
     }
 }

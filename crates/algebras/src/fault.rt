@@ -1,8 +1,10 @@
 // Why an algebra has no answer.
-ghost use Rattle.std.specs.Prelude.{◌≡◌};
+ghost use Rattle.std.specs.Prelude.{◌≡◌, Some};
+ghost use Rattle.refusals.specs.Lines.{line};
 ghost use Rattle.algebras.specs.Replies.{algebra_refusal};
 
 use refusals::{Layer, Refusal};
+use std::fmt;
 
 #[derive(Clone, Copy, PartialEq, Eq, Debug)]
 pub enum AlgebraFault {
@@ -14,11 +16,11 @@ pub enum AlgebraFault {
     SizeOutOfRange,
 }
 
-impl AlgebraFault {
-    pub fn refusal(&self) -> Refusal
-        ensures { result ≡ algebra_refusal self.now }
-    {
-        let number = match self {
+impl From<AlgebraFault> for Refusal {
+    ghost from_gives = { λ f r. r ≡ algebra_refusal f };
+
+    fn from(fault: AlgebraFault) -> Refusal {
+        let number = match fault {
             AlgebraFault::HeightOutOfReach => 31,
             AlgebraFault::RuleOutOfReach => 32,
             AlgebraFault::CeilingOutOfReach => 35,
@@ -30,5 +32,14 @@ impl AlgebraFault {
             layer: Layer::Review,
             place: 0,
         }
+    }
+}
+
+// The line of its refusal.
+impl fmt::Display for AlgebraFault {
+    ghost output = { λ f. Some (line (algebra_refusal f)) };
+
+    fn fmt<W: fmt::Write>(&self, f: &mut fmt::Formatter<W>) -> fmt::Result {
+        Refusal::from(*self).fmt(f)
     }
 }

@@ -9,7 +9,7 @@ pub mod order;
 pub mod reviewing;
 pub mod sum;
 
-pub use algebra::Algebra;
+pub use algebra::{Algebra, check_size};
 pub use empty::Empty;
 pub use fault::AlgebraFault;
 pub use order::Order;
@@ -27,10 +27,7 @@ mod tests {
 
     // add, zero and successor
     fn addition() -> Result<Signature, Fail> {
-        match Signature::new(&[2, 0, 1]) {
-            Ok(signature) => Ok(signature),
-            Err(_) => Err(Fail::new("no signature")),
-        }
+        Ok(Signature::new(&[2, 0, 1])?)
     }
 
     #[test]
@@ -52,14 +49,8 @@ mod tests {
         };
         assert!(rt; sum.compare(&signature, &[0, 1, 32768], &[32768]) == Ok(Order::Weak));
         assert!(rt; sum.ceiling(1024) == Ok(Some(0)));
-        let rule = match Rule::new(&[0, 1, 32768], &[32768]) {
-            Ok(rule) => rule,
-            Err(_) => return Err(Fail::new("no rule")),
-        };
-        let system = match System::new(signature, &[rule]) {
-            Ok(system) => system,
-            Err(_) => return Err(Fail::new("no system")),
-        };
+        let rule = Rule::new(&[0, 1, 32768], &[32768])?;
+        let system = System::new(signature, &[rule])?;
         assert!(rt; review(&sum, &system) == Err(ReviewFault::RuleWeakOnly(0)));
         Ok(())
     }

@@ -1,5 +1,6 @@
 // A review: does an algebra fit a system, and is every rule strict in it?
-ghost use Rattle.std.specs.Prelude.{◌≡◌};
+ghost use Rattle.std.specs.Prelude.{◌≡◌, Some};
+ghost use Rattle.refusals.specs.Lines.{line};
 ghost use Rattle.terms.specs.Models.{arities_of, all_sides};
 ghost use Rattle.terms.specs.Systems.{signature_of, listed_rules, rules_of};
 ghost use Rattle.algebras.specs.Reviews.{review_refusal, judged, rules_reply, review_reply, Reviewed};
@@ -8,6 +9,7 @@ use crate::algebra::Algebra;
 use crate::fault::AlgebraFault;
 use crate::order::Order;
 use refusals::{Layer, Refusal};
+use std::fmt;
 use terms::{Rule, Signature, System};
 
 // The algebra does not fit, or the rule of a number is the first that does not pass.
@@ -19,21 +21,30 @@ pub enum ReviewFault {
     RuleWeakOnly(usize),
 }
 
-impl ReviewFault {
-    pub fn refusal(&self) -> Refusal
-        ensures { result ≡ review_refusal self.now }
-    {
-        let (number, place) = match self {
+impl From<ReviewFault> for Refusal {
+    ghost from_gives = { λ f r. r ≡ review_refusal f };
+
+    fn from(fault: ReviewFault) -> Refusal {
+        let (number, place) = match fault {
             ReviewFault::Unfit => (36, 0),
-            ReviewFault::RuleOutOfReach(rule) => (32, *rule),
-            ReviewFault::RuleNotWeak(rule) => (34, *rule),
-            ReviewFault::RuleWeakOnly(rule) => (33, *rule),
+            ReviewFault::RuleOutOfReach(rule) => (32, rule),
+            ReviewFault::RuleNotWeak(rule) => (34, rule),
+            ReviewFault::RuleWeakOnly(rule) => (33, rule),
         };
         Refusal {
             number,
             layer: Layer::Review,
             place,
         }
+    }
+}
+
+// The line of its refusal.
+impl fmt::Display for ReviewFault {
+    ghost output = { λ f. Some (line (review_refusal f)) };
+
+    fn fmt<W: fmt::Write>(&self, f: &mut fmt::Formatter<W>) -> fmt::Result {
+        Refusal::from(*self).fmt(f)
     }
 }
 
@@ -57,8 +68,7 @@ fn review_rules<A: Algebra>(
 ) -> Result<(), ReviewFault>
     ensures { result ≡ rules_reply (A.means algebra.now) (arities_of signature.now) 0 (all_sides rules.now) }
 {
-    for number in 0..rules.len() {
-        let rule = &rules[number];
+    for (number, rule) in rules.iter().enumerate() {
         let order = algebra.compare(signature, rule.left(), rule.right());
         judge(number, order)?;
     }

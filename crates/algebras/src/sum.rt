@@ -20,13 +20,7 @@ pub struct Sum<A, B> {
 fn add(a: u64, b: u64) -> Option<u64>
     ensures { result ≡ reached (a + b) }
 {
-    if a > REACH {
-        return None;
-    }
-    if b > REACH - a {
-        return None;
-    }
-    Some(a + b)
+    a.checked_add(b).filter(|sum| *sum <= REACH)
 }
 
 // A misfit comes before what is out of reach.
@@ -94,10 +88,7 @@ fn add_ceilings(
     match (a, b) {
         (Ok(None), _) => Ok(None),
         (_, Ok(None)) => Ok(None),
-        (Ok(Some(c)), Ok(Some(d))) => match add(c, d) {
-            Some(ceiling) => Ok(Some(ceiling)),
-            None => Err(AlgebraFault::CeilingOutOfReach),
-        },
+        (Ok(Some(c)), Ok(Some(d))) => { add(c, d).map(Some).ok_or(AlgebraFault::CeilingOutOfReach) }
         (Err(fault), _) => Err(fault),
         (_, Err(fault)) => Err(fault),
     }
@@ -109,10 +100,7 @@ impl<A: Algebra, B: Algebra> Algebra for Sum<A, B> {
     ghost lawful = { λ s. sum_lawful (A.Algebra.means s.first) (B.Algebra.means s.second) (A.Algebra.lawful s.first) (B.Algebra.lawful s.second) };
 
     fn fits(&self, signature: &Signature) -> bool {
-        if !self.first.fits(signature) {
-            return false;
-        }
-        self.second.fits(signature)
+        self.first.fits(signature) && self.second.fits(signature)
     }
 
     fn measure(&self, signature: &Signature, codes: &[u16]) -> Result<u64, AlgebraFault> {

@@ -1,63 +1,40 @@
 -- What the evaluator answers about a term, and what that means.
-use Rattle.std.proofs.Common.{◌≡◌, ℕ, ◌<◌, ◌≤◌, Bool, true, false, cond, ◌&&◌, T, leb, List, [], ◌∷◌, length, Some, None, sym, refl, ap, ◌∙◌, subst, inl, inr, leb→le}
-use Rattle.std.proofs.lemmas.Bool.{le-leb, lt-leb, leb-false}
+use Rattle.std.proofs.Common.{◌≡◌, ℕ, ◌≤◌, Bool, true, false, cond, T, leb, List, length, Some, None, Option, sym, refl, ap, ◌∙◌, subst, inl, inr, leb→le}
+use Rattle.std.proofs.Math.Bool.{and-true}
+use Rattle.std.proofs.lemmas.Bool.{le-leb, leb-false, and_cases}
+use Rattle.terms.specs.declared.signature.Signature.{Signature}
 use Rattle.terms.specs.Terms.{Terms.none, Terms.more}
 use Rattle.terms.specs.Codes.{is_term, stack, term_of}
 use Rattle.terms.specs.Laws.{Reading}
+use Rattle.terms.specs.Models.{arities_of}
 use Rattle.terms.proofs.Booleans.{both, fst_of, snd_of, held, holds}
 use Rattle.terms.proofs.Readings.{reads}
 use Rattle.terms.proofs.Subterms.{lone_of}
 use Rattle.terms.proofs.Views.{counted}
+use Rattle.terms.proofs.Scans.{few_symbols}
 use Rattle.terms.proofs.Exactly.{reading, is_term_of}
 use Rattle.evaluation.specs.Subterms.{throughout, throughout_all, OfSubterm}
-use Rattle.evaluation.specs.Structures.{Structure, value, values, near}
-use Rattle.evaluation.specs.Replies.{bounded, ready, evaluated, filled, remembered}
+use Rattle.evaluation.specs.Structures.{Structure, value, near}
+use Rattle.evaluation.specs.Replies.{bounded, ready, evaluated}
 use Rattle.evaluation.specs.Laws.{Valued, Evaluates}
-use Rattle.evaluation.proofs.Throughout.{throughout_exact, throughout_fails, fails}
+use Rattle.evaluation.proofs.Throughout.{throughout_exact, throughout_fails}
 
 module _ {V : Type 0} (s : Structure V) (sig cs : List ℕ) where
   -- the codes of a term leave one term
   pub one_left : T (is_term sig cs) → stack sig cs ≡ more (term_of sig cs) none
   one_left ok = lone_of (stack sig cs) (reads sig cs 1 (counted sig cs ok)).many
 
-  pub one_value : T (is_term sig cs) → values s (stack sig cs) ≡ value s (term_of sig cs) ∷ []
-  one_value ok = ap (values s) (one_left ok)
-
-  and_true : (b : Bool) → (b && true) ≡ b
-  and_true true = refl
-  and_true false = refl
-
   pub one-near : T (is_term sig cs) → throughout_all (near s) (stack sig cs) ≡ throughout (near s) (term_of sig cs)
-  one-near ok = ap (throughout_all (near s)) (one_left ok) ∙ and_true (throughout (near s) (term_of sig cs))
+  one-near ok = ap (throughout_all (near s)) (one_left ok) ∙ and-true (throughout (near s) (term_of sig cs))
 
   module _ (places : ℕ) where
     pub is_ready : T (is_term sig cs) → length cs ≤ places → ready sig cs places ≡ true
     is_ready ok room = holds _ (both _ _ ok (held _ (le-leb (length cs) places room)))
 
-    -- the answer at a term, by whether all the values are within the bound
-    pub evaluated-near : T (is_term sig cs) → length cs ≤ places → T (throughout_all (near s) (stack sig cs)) → evaluated s sig cs places ≡ Some (value s (term_of sig cs))
-    evaluated-near ok room h =
-        ap (λ b. cond b (bounded s (term_of sig cs)) None) (is_ready ok room)
-        ∙ ap (λ b. cond b (Some (value s (term_of sig cs))) None) (sym (one-near ok) ∙ holds _ h)
-
     pub evaluated_lost : T (is_term sig cs) → length cs ≤ places → throughout_all (near s) (stack sig cs) ≡ false → evaluated s sig cs places ≡ None
     evaluated_lost ok room e =
         ap (λ b. cond b (bounded s (term_of sig cs)) None) (is_ready ok room)
         ∙ ap (λ b. cond b (Some (value s (term_of sig cs))) None) (sym (one-near ok) ∙ e)
-
-    pub not_a_term : is_term sig cs ≡ false → ready sig cs places ≡ false
-    not_a_term e = ap (λ b. b && leb (length cs) places) e
-
-    pub no_room : places < length cs → ready sig cs places ≡ false
-    no_room h = ap (λ b. is_term sig cs && b) (lt-leb (length cs) places h) ∙ and_false (is_term sig cs)
-      where
-        and_false : (b : Bool) → (b && false) ≡ false
-        and_false true = refl
-        and_false false = refl
-
-    pub remembered-ready : (m : List V) → length m ≡ places → T (is_term sig cs) → length cs ≤ places → remembered s sig cs m ≡ filled s sig cs m
-    remembered-ready m e ok room =
-        ap (λ b. cond b (filled s sig cs m) m) (ap (ready sig cs) e ∙ is_ready ok room)
 
     module _ (few : length sig ≤ 32) where
       valued : (ok : T (is_term sig cs)) → throughout (near s) (term_of sig cs) ≡ true → Valued s sig cs (value s (term_of sig cs))
@@ -83,7 +60,12 @@ module _ {V : Type 0} (s : Structure V) (sig cs : List ℕ) where
           go true true e f =
               (leb→le (length cs) places (snd_of (is_term sig cs) _ (held _ e)), valued (fst_of (is_term sig cs) _ (held _ e)) f)
           go true false e f = inr (unvalued f (fst_of (is_term sig cs) _ (held _ e)))
-          go false b e f = elim (fails (is_term sig cs) (leb (length cs) places) e) [
+          go false b e f = elim (and_cases (is_term sig cs) (leb (length cs) places) e) [
             | inl a ↦ inr (λ x. absurd (subst (λ b. T b) a (is_term_of sig few x.term cs x.over_signature x.short x.coded)))
             | inr a ↦ inl (leb-false (length cs) places a)
           ]
+
+-- the same of what a call answers
+pub evaluates_law : {V : Type 0} (s : Structure V) (sig cs : List ℕ) (places : ℕ) (own : Signature) (r : Option V) → arities_of own ≡ sig → r ≡ evaluated s sig cs places → Evaluates s sig cs places r
+evaluates_law s sig cs places own r same e =
+    subst (Evaluates s sig cs places) (sym e) (evaluates s sig cs places (subst (λ l. length l ≤ 32) same (few_symbols (arities_of own) own.limited)))

@@ -1,5 +1,4 @@
 pub mod Throughout
 pub mod Waiting
-pub mod Stepping
-pub mod Filling
 pub mod Evaluated
+pub mod Filling

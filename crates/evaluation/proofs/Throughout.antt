@@ -1,5 +1,7 @@
 -- A test passes throughout a term exactly if it passes at every subterm.
-use Rattle.std.proofs.Common.{◌≡◌, ℕ, zero, suc, Bool, true, false, ◌&&◌, T, ◌⊎◌, ◌↔◌, sym, refl, ap, ◌∙◌, subst, ap₂, inl, inr}
+use Rattle.std.proofs.Common.{◌≡◌, ℕ, zero, suc, Bool, false, ◌&&◌, T, ◌↔◌, sym, refl, ap, ◌∙◌, subst, ap₂, inl, inr}
+use Rattle.std.proofs.Math.Bool.{and_assoc}
+use Rattle.std.proofs.lemmas.Bool.{and_cases, true≢false}
 use Rattle.terms.specs.Terms.{Term, Terms, Term.var, Term.app, Terms.none, Terms.more}
 use Rattle.terms.specs.Contexts.{Context, Context.hole, Context.inside, plug, joined}
 use Rattle.terms.specs.Codes.{front, back}
@@ -9,11 +11,6 @@ use Rattle.evaluation.specs.Subterms.{throughout, throughout_all, OfSubterms, Of
 joined_on : (before : Terms) (t : Term) (ts : Terms) → joined (joined before (more t none)) ts ≡ joined before (more t ts)
 joined_on none t ts = refl
 joined_on (more x before) t ts = ap (more x) (joined_on before t ts)
-
--- a conjunction fails at one of its parts
-pub fails : (a b : Bool) → (a && b) ≡ false → (a ≡ false) ⊎ (b ≡ false)
-fails true b e = inr e
-fails false b e = inl refl
 
 module _ (p : Term → Bool) where
   pub throughout_top : (t : Term) → T (throughout p t) → T (p t)
@@ -55,17 +52,14 @@ module _ (p : Term → Bool) where
   mutual
     pub throughout_fails : (t : Term) → throughout p t ≡ false → OfSubterm (λ u. p u ≡ false) t
     throughout_fails (var v) e = record { context = hole; part = var v; whole = refl; fact = e }
-    throughout_fails (app f ts) e = elim (fails (throughout_all p ts) (p (app f ts)) e) [
+    throughout_fails (app f ts) e = elim (and_cases (throughout_all p ts) (p (app f ts)) e) [
       | inl a ↦ throughout_all_fails f none ts a
       | inr b ↦ record { context = hole; part = app f ts; whole = refl; fact = b }
     ]
 
     throughout_all_fails : (f : ℕ) (before ts : Terms) → throughout_all p ts ≡ false → OfSubterm (λ u. p u ≡ false) (app f (joined before ts))
-    throughout_all_fails f before none e = record { context = hole; part = app f (joined before none); whole = refl; fact = absurd (truth e) }
-      where
-        truth : true ≡ false → ⊥
-        truth e = subst (λ b. T b) e tt
-    throughout_all_fails f before (more t ts) e = elim (fails (throughout p t) (throughout_all p ts) e) [
+    throughout_all_fails f before none e = record { context = hole; part = app f (joined before none); whole = refl; fact = absurd (true≢false e) }
+    throughout_all_fails f before (more t ts) e = elim (and_cases (throughout p t) (throughout_all p ts) e) [
       | inl a ↦ lifted f before t ts (throughout_fails t a)
       | inr b ↦ subst (OfSubterm (λ u. p u ≡ false)) (ap (app f) (joined_on before t ts)) (throughout_all_fails f (joined before (more t none)) ts b)
     ]
@@ -74,11 +68,7 @@ module _ (p : Term → Bool) where
   pub throughout_split : (n : ℕ) (ts : Terms) → throughout_all p ts ≡ (throughout_all p (front n ts) && throughout_all p (back n ts))
   throughout_split zero ts = refl
   throughout_split (suc n) none = refl
-  throughout_split (suc n) (more t ts) = ap (λ b. throughout p t && b) (throughout_split n ts) ∙ grouped (throughout p t) _ _
-    where
-      grouped : (a b c : Bool) → (a && (b && c)) ≡ ((a && b) && c)
-      grouped true b c = refl
-      grouped false b c = refl
+  throughout_split (suc n) (more t ts) = ap (λ b. throughout p t && b) (throughout_split n ts) ∙ sym (and_assoc (throughout p t) _ _)
 
 -- two tests that agree, throughout
 module _ (p q : Term → Bool) (same : (t : Term) → p t ≡ q t) where

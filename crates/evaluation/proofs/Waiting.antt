@@ -1,5 +1,7 @@
 -- The values that wait at a place of codes are those of the terms from there on.
 use Rattle.std.proofs.Common.{◌≡◌, ℕ, zero, suc, ◌-◌, Bool, true, false, cond, ◌&&◌, T, ltb, List, ◌∷◌, length, get_or, take, drop, sym, refl, ap, ◌∙◌, subst, ap₂, arith}
+use Rattle.std.proofs.Math.Bool.{and-true}
+use Rattle.std.proofs.lemmas.Bool.{and_right}
 use Rattle.terms.specs.Terms.{Terms, Term.var, Term.app, Terms.none, Terms.more, count}
 use Rattle.terms.specs.Codes.{front, back, stack}
 use Rattle.terms.proofs.Booleans.{fst_of, snd_of, holds}
@@ -8,20 +10,13 @@ use Rattle.evaluation.specs.Structures.{Structure, value, values, near, Every, a
 use Rattle.evaluation.proofs.Throughout.{throughout_top, throughout_split}
 
 outer : (w a : Bool) → T a → (w && a) ≡ w
-outer true true h = refl
-outer false a h = refl
-outer true false h = absurd h
+outer w a h = ap (λ b. w && b) (holds a h) ∙ and-true w
 
 inner : (a b w : Bool) → T (a && b) → ((a && w) && b) ≡ w
-inner true b w h = outer w b h
-inner false b w h = absurd h
-
-outer_lost : (w a : Bool) → a ≡ false → (w && a) ≡ false
-outer_lost true a e = e
-outer_lost false a e = refl
+inner a b w h = outer (a && w) b (snd_of a b h) ∙ ap (λ x. x && w) (holds a (fst_of a b h))
 
 inner_lost : (a b w : Bool) → (a && b) ≡ false → ((a && w) && b) ≡ false
-inner_lost true b w e = outer_lost w b e
+inner_lost true b w e = and_right w b e
 inner_lost false b w e = refl
 
 module _ {V : Type 0} (s : Structure V) where
@@ -81,4 +76,4 @@ module _ {V : Type 0} (s : Structure V) where
         go true ts e =
             inner_lost (throughout_all (near s) (front (get_or sig c 0) ts)) (throughout_all (near s) (back (get_or sig c 0) ts)) (near s (app c (front (get_or sig c 0) ts)))
             (sym (throughout_split (near s) (get_or sig c 0) ts) ∙ e)
-        go false ts e = outer_lost (s.within (s.assigned (c - 32768))) (throughout_all (near s) ts) e
+        go false ts e = and_right (s.within (s.assigned (c - 32768))) (throughout_all (near s) ts) e

@@ -1,5 +1,5 @@
 -- What a stack holds, the newest entry first, and how many entries more it has memory for.
-use Rattle.std.specs.Prelude.{ℕ, ◌≤◌, List, length, drop}
+use Rattle.std.specs.Prelude.{ℕ, List, drop}
 use Rattle.evaluation.specs.declared.stack.Stack.{Stack}
 
 -- the entries
@@ -9,7 +9,3 @@ held s = drop s.at s.slots.now
 -- for how many more there is memory
 abbrev pub room : {T : Type 0} → Stack T → ℕ
 room s = s.at
-
--- what it holds begins within the memory
-abbrev pub Sound : {T : Type 0} → Stack T → Type 0
-Sound s = s.at ≤ length s.slots.now

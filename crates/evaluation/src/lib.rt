@@ -2,10 +2,10 @@
 // terms behind a code wait on a stack over lent memory.
 #![tactic(auto)]
 
-ghost use Rattle.std.specs.Prelude.{◌≡◌, ◌+◌, ◌<◌, ◌≤◌, T, length, if◌then◌else◌};
+ghost use Rattle.std.specs.Prelude.{◌≡◌, ◌+◌, ◌<◌, ◌≤◌, T, length, if◌then◌else◌, is_some};
 ghost use Rattle.terms.specs.Codes.{arity, known, is_term};
 ghost use Rattle.evaluation.specs.Structures.{Every, applied, stepped};
-ghost use Rattle.evaluation.specs.Held.{held, room, Sound};
+ghost use Rattle.evaluation.specs.Held.{held, room};
 ghost use Rattle.evaluation.specs.Replies.{evaluated, stored, filled, remembered};
 ghost use Rattle.evaluation.specs.Laws.{Evaluates};
 
@@ -14,32 +14,35 @@ pub mod stack;
 
 pub use interpretation::Interpretation;
 pub use stack::Stack;
-use terms::FIRST_VARIABLE;
+use terms::Code;
 
-// Reads one code: its value takes the place of its arguments' values. False if it is out of the bound, and then
+// Reads one code: its value takes the place of its arguments' values. None if it is out of the bound, and then
 // nothing changes.
-fn step<I: Interpretation>(interpretation: &I, code: u16, waiting: &mut Stack<I::Value>) -> bool
+fn step<I: Interpretation>(
+    interpretation: &I,
+    code: u16,
+    waiting: &mut Stack<I::Value>,
+) -> Option<()>
     requires known { T (known (I.arities interpretation.now) code) }
     requires enough { arity (I.arities interpretation.now) code ≤ length (held waiting.old) }
     requires tested { Every (I.structure interpretation.now).within (held waiting.old) }
     requires room { 0 < room waiting.old }
-    requires sound { Sound waiting.old }
-    ensures done { result ≡ (I.structure interpretation.now).within (applied (I.structure interpretation.now) (I.arities interpretation.now) code (held waiting.old)) }
-    ensures after { held waiting.new ≡ (if result then stepped (I.structure interpretation.now) (I.arities interpretation.now) code (held waiting.old) else held waiting.old) }
+    ensures done { is_some result ≡ (I.structure interpretation.now).within (applied (I.structure interpretation.now) (I.arities interpretation.now) code (held waiting.old)) }
+    ensures after { held waiting.new ≡ (if is_some result then stepped (I.structure interpretation.now) (I.arities interpretation.now) code (held waiting.old) else held waiting.old) }
     ensures room { room waiting.old ≤ room waiting.new + 1 }
-    ensures sound { Sound waiting.new }
     ensures lender { waiting.new.slots.ghost_name ≡ waiting.old.slots.ghost_name }
-    ensures memory { waiting.new.slots.now ≡ (if result then stored waiting.old.slots.now (stepped (I.structure interpretation.now) (I.arities interpretation.now) code (held waiting.old)) else waiting.old.slots.now) }
+    ensures memory { waiting.new.slots.now ≡ (if is_some result then stored waiting.old.slots.now (stepped (I.structure interpretation.now) (I.arities interpretation.now) code (held waiting.old)) else waiting.old.slots.now) }
 {
-    if code >= FIRST_VARIABLE {
-        return waiting.push(interpretation.variable((code - FIRST_VARIABLE) as usize));
-    }
-    let count = interpretation.signature().arity(code);
-    match interpretation.apply(code as usize, waiting.top(count)) {
-        None => false,
-        Some(value) => {
+    match Code::from(code) {
+        Code::Variable(number) => {
+            let value = interpretation.variable(number as usize);
+            waiting.push(value).ok()
+        }
+        Code::Symbol(symbol) => {
+            let count = interpretation.signature().arity(code);
+            let value = interpretation.apply(symbol as usize, waiting.top(count))?;
             waiting.release(count);
-            waiting.push(value)
+            waiting.push(value).ok()
         }
     }
 }
@@ -56,17 +59,15 @@ fn fold<I: Interpretation>(
     ensures memory { memory.new ≡ filled (I.structure interpretation.now) (I.arities interpretation.now) codes.now memory.old }
 {
     let mut waiting = Stack::over(memory);
-    for at in (0..codes.len()).rev() {
-        if !step(interpretation, codes[at], &mut waiting) {
-            return None;
-        }
+    for code in codes.iter().rev() {
+        step(interpretation, *code, &mut waiting)?;
     }
-    let answer = waiting.top(1);
-    Some(answer[0])
+    waiting.top(1).first().copied()
 }
 
 // The value of the term that the codes are; none if they are no term under the interpretation's signature, if the
 // memory has fewer places than there are codes, or if the value of some subterm is out of the bound.
+#[tactic(auto, using(crate::proofs::Evaluated::evaluates_law))]
 pub fn evaluate<I: Interpretation>(
     interpretation: &I,
     codes: &[u16],

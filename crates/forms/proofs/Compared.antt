@@ -1,5 +1,6 @@
 -- Forms by columns are within reach, and cover one another, as the part says.
-use Rattle.std.proofs.Common.{◌≡◌, ℕ, ◌+◌, ◌*◌, ◌<◌, ◌≤◌, Bool, ◌&&◌, T, eqb, leb, List, [], ◌∷◌, length, get_or, sym, refl, ap, ◌∙◌, subst, ap₂, inl, inr, arith, le→leb}
+use Rattle.std.proofs.Common.{◌≡◌, ℕ, ◌+◌, ◌*◌, ◌<◌, ◌≤◌, Bool, ◌&&◌, T, eqb, leb, List, length, get_or, sym, ap, ◌∙◌, subst, ap₂, inl, inr, arith, le→leb}
+use Rattle.std.specs.List.{list_all, zip}
 use Rattle.std.proofs.lemmas.List.FromFn.{length-map-range_with_len}
 use Rattle.std.proofs.lemmas.Bool.{cases_lt}
 use Rattle.terms.specs.Terms.{Term, Term.var, Term.app}
@@ -13,14 +14,10 @@ use Rattle.evaluation.proofs.Throughout.{throughout_same}
 use Rattle.interpretations.specs.Numbers.{every}
 use Rattle.interpretations.specs.Parts.{Part, constant_of, matrix_of}
 use Rattle.interpretations.specs.Orders.{each_constant, each_entry, form_near, weak}
-use Rattle.interpretations.proofs.Tests.{every-at, every_from, entry_at, entry_from, same_test, every_same}
-use Rattle.forms.specs.Columns.{Columns, forms, column, spread, all_within}
+use Rattle.interpretations.proofs.Tests.{every-at, every_from, entry_at, entry_from, same_test, every_same, list_all-every, list_all-zip}
+use Rattle.forms.specs.Columns.{Columns, forms, column, spread}
 use Rattle.forms.specs.Faithful.{Faithful, vector_near, covers}
 use Rattle.forms.proofs.Tied.{flat, flat_constant, flat_matrix, beyond, by_column}
-
-all_within-every : {C : Type 0} (p : C → Bool) (d : C) (xs : List C) → all_within p xs ≡ every (length xs) (λ k. p (get_or xs k d))
-all_within-every p d [] = refl
-all_within-every p d (x ∷ xs) = ap (λ b. p x && b) (all_within-every p d xs)
 
 -- a test of every entry of 33 columns is one of the constants and of the matrices, if it passes beyond the dimension
 module _ (P : Part) (narrow : P.dim ≤ 4) (q : ℕ → ℕ → Bool) (c : ℕ → Bool) (e : ℕ → ℕ → ℕ → Bool)
@@ -69,15 +66,21 @@ module _ {C : Type 0} (m : Columns C) (entry : C → ℕ → ℕ) (P : Part) (fa
 
   pub forms-readable : (t : Term) → throughout (near (forms m)) t ≡ throughout (form_near P) t
   forms-readable = throughout_same (near (forms m)) (form_near P)
-      (λ t. all_within-every m.within m.zero (structure.value (forms m) t)
+      (λ t. list_all-every m.within m.zero (structure.value (forms m) t)
       ∙ ap (λ n. every n (λ k. m.within (get_or (structure.value (forms m) t) k m.zero))) (form_length t)
       ∙ every_same 33 (λ k. m.within (get_or (structure.value (forms m) t) k m.zero)) (λ k. vector_near P (fl t k)) (λ k l. faith.tests (get_or (structure.value (forms m) t) k m.zero))
       ∙ columns_near t)
 
+  abbrev columns : List C → List C → Bool
+  columns l r = list_all (λ c. covers P (entry c.0) (entry c.1)) (zip l r)
+
   -- column against column
-  pub columns_weak : (r : Rule) → every 33 (λ k. covers P (fl r.left k) (fl r.right k)) ≡ weak P r
+  pub columns_weak : (r : Rule) → columns (structure.value (forms m) r.left) (structure.value (forms m) r.right) ≡ weak P r
   columns_weak r =
-      columns_are P narrow (λ k i. leb (fl r.right k i) (fl r.left k i)) (λ i. leb (constant_of P r.right i) (constant_of P r.left i)) (λ v i j. leb (matrix_of P r.right v i j) (matrix_of P r.left v i j))
+      let l = structure.value (forms m) r.left in
+      list_all-zip (λ c. covers P (entry c.0) (entry c.1)) m.zero m.zero l (structure.value (forms m) r.right) (omega (arith, form_length r.left, form_length r.right))
+      ∙ ap (λ n. every n (λ k. covers P (fl r.left k) (fl r.right k))) (form_length r.left)
+      ∙ columns_are P narrow (λ k i. leb (fl r.right k i) (fl r.left k i)) (λ i. leb (constant_of P r.right i) (constant_of P r.left i)) (λ v i j. leb (matrix_of P r.right v i j) (matrix_of P r.left v i j))
       (λ i l. ap₂ leb (flat_constant m entry P faith r.right i l) (flat_constant m entry P faith r.left i l))
       (λ v j i a b l. ap₂ leb (flat_matrix m entry P faith narrow r.right v j i a b l) (flat_matrix m entry P faith narrow r.left v j i a b l))
       (λ v j i a ge l. let z = beyond P v j ge r.right i l in le→leb (matrix_of P r.right v i j) (matrix_of P r.left v i j) (omega arith))

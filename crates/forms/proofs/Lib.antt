@@ -1,5 +1,5 @@
 pub mod Made
-pub mod Gathered
+pub mod Filled
 pub mod Tied
 pub mod Compared
 pub mod Told

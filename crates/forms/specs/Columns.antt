@@ -1,7 +1,7 @@
 -- Linear forms as rows of 33 columns: the constant vector, and one column for each of the four coordinates of each of
 -- the eight variables. A symbol is applied column by column, with its constant in the first alone.
-use Rattle.std.specs.Prelude.{ℕ, Bool, true, ◌&&◌, List, [], ◌∷◌, map, ◌==◌, slice_index_or}
-use Rattle.std.specs.List.{range_with_len}
+use Rattle.std.specs.Prelude.{ℕ, Bool, true, List, map, ◌==◌, slice_index_or}
+use Rattle.std.specs.List.{range_with_len, list_all}
 use Rattle.evaluation.specs.Structures.{Structure}
 
 -- what columns are made by
@@ -17,10 +17,6 @@ pub record Columns (C : Type 0) : Type 0 where
 -- how many columns a form has
 abbrev pub width : ℕ
 width = 33
-
-abbrev pub all_within : {C : Type 0} → (C → Bool) → List C → Bool
-all_within p [] = true
-all_within p (x ∷ xs) = p x && all_within p xs
 
 -- column k of each form
 abbrev pub column : {C : Type 0} → C → ℕ → List (List C) → List C
@@ -39,5 +35,5 @@ abbrev pub forms : {C : Type 0} → Columns C → Structure (List C)
 forms m = record {
   assigned = λ v. spread (m.unit v);
   result = λ f args. spread (λ k. m.combined (k == 0) f (column m.zero k args));
-  within = all_within m.within;
+  within = list_all m.within;
 }

@@ -4,6 +4,7 @@ ghost use Rattle.forms.specs.Columns.{single, forms, width, column as columned};
 
 use crate::reckoning::Reckoning;
 use evaluation::Interpretation;
+use std::array;
 use terms::Signature;
 
 // Variables are zero.
@@ -32,6 +33,11 @@ impl<P: Reckoning> Interpretation for Heights<'_, P> {
     }
 }
 
+// How many columns a form has: the constant vector, and one for each coordinate of each variable.
+pub const WIDTH: usize = 33;
+
+pub type Form<V> = [V; WIDTH];
+
 // Variables are themselves.
 #[derive(Drop)]
 pub struct Forms<'a, P> {
@@ -39,20 +45,20 @@ pub struct Forms<'a, P> {
 }
 
 // One column of each form.
-fn gather<C: Copy>(zero: C, k: usize, args: &[[C; 33]]) -> [C; 4]
+fn gather<C: Copy>(zero: C, k: usize, args: &[Form<C>]) -> [C; 4]
     requires few { length args.now ≤ 4 }
     requires inside { k < width }
     ensures { take (length args.now) result ≡ columned zero k args.now }
 {
-    let mut out = [zero; 4];
-    for at in 0..args.len() {
-        out[at] = args[at][k];
+    let mut column = [zero; 4];
+    for (at, form) in args.iter().enumerate() {
+        column[at] = form[k];
     }
-    out
+    column
 }
 
 impl<P: Reckoning> Interpretation for Forms<'_, P> {
-    type Value = [P::Vector; 33];
+    type Value = Form<P::Vector>;
 
     ghost arities = { λ s. (P.Reckoning.meaning s.part.now).sig };
 
@@ -62,24 +68,16 @@ impl<P: Reckoning> Interpretation for Forms<'_, P> {
         self.part.signature()
     }
 
-    fn variable(&self, number: usize) -> [P::Vector; 33] {
-        let mut out = [self.part.zero(); 33];
-        for k in 0..33 {
-            out[k] = self.part.unit(number, k);
-        }
-        out
+    fn variable(&self, number: usize) -> Form<P::Vector> {
+        array::from_fn(|k| self.part.unit(number, k))
     }
 
-    fn apply(&self, symbol: usize, args: &[[P::Vector; 33]]) -> Option<[P::Vector; 33]> {
+    fn apply(&self, symbol: usize, args: &[Form<P::Vector>]) -> Option<Form<P::Vector>> {
         let zero = self.part.zero();
-        let mut out = [zero; 33];
-        for k in 0..33 {
+        let mut out = [zero; WIDTH];
+        for (k, column) in out.iter_mut().enumerate() {
             let gathered = gather(zero, k, args);
-            let column = &gathered[..];
-            match self.part.combine(k == 0, symbol, &column[0..args.len()]) {
-                None => return None,
-                Some(value) => out[k] = value,
-            }
+            *column = self.part.combine(k == 0, symbol, &gathered[..args.len()])?;
         }
         Some(out)
     }

@@ -1,6 +1,7 @@
--- Tests at each number, and lists that are the same.
-use Rattle.std.proofs.Common.{◌≡◌, ℕ, zero, suc, ◌+◌, ◌<◌, ◌≤◌, max, Bool, true, false, ◌&&◌, T, eqb, List, [], ◌∷◌, length, get_or, sym, refl, ap, ◌∙◌, subst, ap₂, add-one, arith, eqb→eq}
-use Rattle.std.proofs.lemmas.Bool.{and_from, eq-eqb}
+-- Tests at each number and of each element, and lists that are the same.
+use Rattle.std.proofs.Common.{◌≡◌, ℕ, zero, suc, ◌<◌, ◌≤◌, max, min, Bool, true, false, ◌&&◌, T, eqb, List, [], ◌∷◌, length, map, get_or, take, fold, unwrap_or, refl, ap, ◌∙◌, subst, ap₂, arith, eqb→eq}
+use Rattle.std.specs.List.{list_all, reduce, zip}
+use Rattle.std.proofs.lemmas.List.{length-take, get_or-take}
 use Rattle.terms.specs.Limits.{variables}
 use Rattle.terms.proofs.Booleans.{both, fst_of, snd_of}
 use Rattle.interpretations.specs.Numbers.{every, largest, same_list}
@@ -54,21 +55,32 @@ every_fails n p k l e = same_test false (every n p) (λ x. absurd x) (λ h. subs
 pub every_holds : (n : ℕ) (p : ℕ → Bool) → ((k : ℕ) → k < n → T (p k)) → true ≡ every n p
 every_holds n p h = same_test true (every n p) (λ x. every_from n p h) (λ x. tt)
 
--- one number more, at the end
-pub largest_more : (n : ℕ) (f : ℕ → ℕ) → largest (n + 1) f ≡ max (largest n f) (f n)
-largest_more n f = ap (λ k. largest k f) (add-one n) ∙ go n f
-  where
-    go : (n : ℕ) (f : ℕ → ℕ) → largest (suc n) f ≡ max (largest n f) (f n)
-    go zero f = omega arith
-    go (suc n) f = let e = go n (λ j. f (suc j)) in omega arith
+-- a test of each element of a list, of its first elements, and of each pair of two, by their places
+module _ {X : Type 0} (p : X → Bool) (d : X) where
+  pub list_all-every : (xs : List X) → list_all p xs ≡ every (length xs) (λ k. p (get_or xs k d))
+  list_all-every [] = refl
+  list_all-every (x ∷ xs) = ap (λ b. p x && b) (list_all-every xs)
 
--- lists of one length with the same entries
-pub same_yes : (xs ys : List ℕ) → length xs ≡ length ys → ((k : ℕ) → k < length xs → get_or xs k 0 ≡ get_or ys k 0) → true ≡ same_list xs ys
-same_yes [] [] e h = refl
-same_yes [] (y ∷ ys) e h = let z : ⊥ = omega arith in absurd z
-same_yes (x ∷ xs) [] e h = let z : ⊥ = omega arith in absurd z
-same_yes (x ∷ xs) (y ∷ ys) e h =
-    sym (and_from (eqb x y) (same_list xs ys) (eq-eqb x y (h 0 (omega arith))) (sym (same_yes xs ys (omega arith) (λ k l. h (suc k) (omega arith)))))
+  pub list_all-take : (n : ℕ) (xs : List X) → list_all p (take n xs) ≡ every (min n (length xs)) (λ k. p (get_or xs k d))
+  list_all-take n xs =
+      list_all-every (take n xs)
+      ∙ every_same (length (take n xs)) (λ k. p (get_or (take n xs) k d)) (λ k. p (get_or xs k d)) (λ k l. ap p (get_or-take n xs k d (omega (arith, length-take n xs))))
+      ∙ ap (λ m. every m (λ k. p (get_or xs k d))) (length-take n xs)
 
-pub same_no : (xs ys : List ℕ) → (xs ≡ ys → ⊥) → false ≡ same_list xs ys
-same_no xs ys d = same_test false (same_list xs ys) (λ x. absurd x) (λ h. d (same_list_eq xs ys h))
+pub list_all-zip : {X Y : Type 0} (p : X × Y → Bool) (d : X) (e : Y) (xs : List X) (ys : List Y) → length xs ≤ length ys
+    → list_all p (zip xs ys) ≡ every (length xs) (λ k. p (get_or xs k d, get_or ys k e))
+list_all-zip p d e [] ys h = refl
+list_all-zip p d e (x ∷ xs) [] h = absurd (omega arith)
+list_all-zip p d e (x ∷ xs) (y ∷ ys) h = ap (λ b. p (x, y) && b) (list_all-zip p d e xs ys (omega arith))
+
+-- the largest of a list's first elements, by their places
+module _ {X : Type 0} (f : X → ℕ) (d : X) where
+  largest-fold : (a n : ℕ) (xs : List X) → n ≤ length xs → fold max a (map f (take n xs)) ≡ max a (largest n (λ k. f (get_or xs k d)))
+  largest-fold a zero xs h = omega arith
+  largest-fold a (suc n) [] h = absurd (omega arith)
+  largest-fold a (suc n) (x ∷ xs) h = let e = largest-fold (max a (f x)) n xs (omega arith) in omega arith
+
+  pub largest-reduce : (n : ℕ) (xs : List X) → n ≤ length xs → unwrap_or (reduce max (map f (take n xs))) 0 ≡ largest n (λ k. f (get_or xs k d))
+  largest-reduce zero xs h = refl
+  largest-reduce (suc n) [] h = absurd (omega arith)
+  largest-reduce (suc n) (x ∷ xs) h = largest-fold (f x) n xs (omega arith)

@@ -3,34 +3,19 @@
 
 ghost use Rattle.std.specs.Prelude.{◌≡◌, ◌≤◌, length};
 ghost use Rattle.terms.specs.Models.{arities_of};
-ghost use Rattle.algebras.specs.Replies.{measured, compared, order as order_from, ceiling_told};
+ghost use Rattle.algebras.specs.Replies.{measured, compared, ceiling_told};
 ghost use Rattle.interpretations.specs.Numbers.{same_list};
 ghost use Rattle.interpretations.specs.Orders.{part_means, no_ceiling};
 
 use algebras::{AlgebraFault, Order, REACH};
-use forms::{Comparison, Reckoning};
+use forms::{Form, Reckoning};
 use terms::Signature;
-
-// Whether two lists of arities are the same.
-fn same(a: &[u8], b: &[u8]) -> bool
-    ensures { result ≡ same_list a.now b.now }
-{
-    if a.len() != b.len() {
-        return false;
-    }
-    for i in 0..a.len() {
-        if a[i] != b[i] {
-            return false;
-        }
-    }
-    true
-}
 
 // Whether it is the signature that the part interprets.
 pub fn interprets<P: Reckoning>(part: &P, signature: &Signature) -> bool
     ensures { result ≡ same_list (arities_of signature.now) (P.meaning part.now).sig }
 {
-    same(signature.arities(), part.signature().arities())
+    signature.arities() == part.signature().arities()
 }
 
 // The height of a term, in memory for any term.
@@ -43,28 +28,10 @@ pub fn measure<P: Reckoning>(
     requires { 1024 ≤ length memory.old }
     ensures { result ≡ measured (part_means (P.meaning part.now) no_ceiling) (arities_of signature.now) codes.now }
 {
-    if !interprets(part, signature) {
+    if !interprets(part, signature) || !signature.is_term(codes) {
         return Err(AlgebraFault::Unfit);
     }
-    if !signature.is_term(codes) {
-        return Err(AlgebraFault::Unfit);
-    }
-    match forms::height(part, codes, memory) {
-        None => Err(AlgebraFault::HeightOutOfReach),
-        Some(height) => Ok(height),
-    }
-}
-
-fn order(sides: Comparison) -> Order
-    ensures { result ≡ order_from sides.strict sides.weak }
-{
-    if sides.strict {
-        Order::Strict
-    } else if sides.weak {
-        Order::Weak
-    } else {
-        Order::Neither
-    }
+    forms::height(part, codes, memory).ok_or(AlgebraFault::HeightOutOfReach)
 }
 
 // The order of a rule's sides, in memory for any side.
@@ -73,21 +40,15 @@ pub fn compare<P: Reckoning>(
     signature: &Signature,
     left: &[u16],
     right: &[u16],
-    memory: &mut [[P::Vector; 33]],
+    memory: &mut [Form<P::Vector>],
 ) -> Result<Order, AlgebraFault>
     requires { 32 ≤ length memory.old }
     ensures { result ≡ compared (part_means (P.meaning part.now) no_ceiling) (arities_of signature.now) left.now right.now }
 {
-    if !interprets(part, signature) {
+    if !interprets(part, signature) || !signature.is_rule(left, right) {
         return Err(AlgebraFault::Unfit);
     }
-    if !signature.is_rule(left, right) {
-        return Err(AlgebraFault::Unfit);
-    }
-    match forms::compare(part, left, right, memory) {
-        None => Err(AlgebraFault::RuleOutOfReach),
-        Some(sides) => Ok(order(sides)),
-    }
+    forms::compare(part, left, right, memory).ok_or(AlgebraFault::RuleOutOfReach)
 }
 
 // A ceiling, if it is within reach.
@@ -95,12 +56,7 @@ pub fn tell_ceiling(ceiling: Option<u64>) -> Result<Option<u64>, AlgebraFault>
     ensures { result ≡ ceiling_told ceiling }
 {
     match ceiling {
-        None => Ok(None),
-        Some(most) => {
-            if most > REACH {
-                return Err(AlgebraFault::CeilingOutOfReach);
-            }
-            Ok(Some(most))
-        }
+        Some(most) if most > REACH => Err(AlgebraFault::CeilingOutOfReach),
+        _ => Ok(ceiling),
     }
 }

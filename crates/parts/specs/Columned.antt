@@ -1,20 +1,19 @@
 -- Vectors and numbers are made as a part says, entry by entry.
-use Rattle.std.specs.Prelude.{◌≡◌, ℕ, zero, suc, ◌+◌, ◌*◌, ◌<◌, ◌≤◌, Bool, true, false, cond, ◌&&◌, T, leb, ◌≢◌, List, [], ◌∷◌, map, length, get_or, drop, Some, None, ◌==◌, nat_le, nat_lt, slice_index, slice_index_or, slice_set, refl}
-use Rattle.std.proofs.Common.{sym, ap, ◌∙◌, subst, inl, inr, mul-le-mul, add-one, arith, leb→le, le→leb, get_or-set_same, get_or-set_other, below_more}
-use Rattle.std.specs.List.{range_with_len, AllByRecursion}
-use Rattle.std.proofs.ByRecursion.{All-weaker}
+use Rattle.std.specs.Prelude.{◌≡◌, ℕ, zero, suc, ◌+◌, ◌-◌, ◌*◌, ◌<◌, ◌≤◌, Bool, true, false, cond, ◌&&◌, T, leb, List, [], ◌∷◌, ◌++◌, map, length, get_or, drop, Some, None, ◌==◌, nat_le, nat_lt, slice_index, refl}
+use Rattle.std.proofs.Common.{length-append, length-drop, sym, ap, ◌∙◌, subst, inl, inr, arith, le→leb}
+use Rattle.std.specs.List.{range_with_len}
 use Rattle.std.proofs.lemmas.List.FromFn.{get_or-map-range_with_len, fill_by_all}
-use Rattle.std.proofs.lemmas.List.{drop_more, drop_all}
+use Rattle.std.proofs.lemmas.List.{get_or_append_left, get_or-append_right, get_or-drop}
 use Rattle.std.proofs.lemmas.Bool.{cond-true, cond-false, lt-ltb, le-ltb, lt-leb, le-leb, cases_lt}
-use Rattle.terms.proofs.Booleans.{both, fst_of, held}
+use Rattle.terms.proofs.Booleans.{both, fst_of}
 use Rattle.algebras.specs.Meanings.{reach}
-use Rattle.evaluation.specs.Structures.{tested, Every}
-use Rattle.interpretations.specs.Numbers.{total}
+use Rattle.evaluation.specs.Structures.{tested}
 use Rattle.interpretations.specs.Parts.{Part}
-use Rattle.interpretations.proofs.Tests.{every-at, same_test, every_fails, every_holds}
-use Rattle.forms.specs.Faithful.{Faithful, weighed, combined_entry, vector_near}
+use Rattle.interpretations.proofs.Tests.{same_test, every_fails, every_holds}
+use Rattle.forms.specs.Faithful.{Faithful, combined_entry, vector_near}
+use Rattle.parts.specs.declared.linear.LinearSymbol.{LinearSymbol}
 use Rattle.parts.specs.Kinds.{linear_part}
-use Rattle.parts.specs.Vectors.{vector, number, vector_columns, number_columns, VectorNear}
+use Rattle.parts.specs.Vectors.{vector, number, vector_columns, number_columns}
 
 zero_entry : (i : ℕ) → ◌≡◌ {A = ℕ} (slice_index (0 ∷ (0 ∷ (0 ∷ (0 ∷ [])))) i) 0
 zero_entry zero = refl
@@ -33,43 +32,28 @@ vector_faithful P narrow = record {
   tests = λ c. refl;
 }
 
-pub number_faithful : (sig constants : List ℕ) (factors : List (List ℕ)) → Faithful (number_columns (linear_part sig constants factors)) number (linear_part sig constants factors)
-number_faithful sig constants factors = record {
+pub number_faithful : (sig : List ℕ) (symbols : List LinearSymbol) → Faithful (number_columns (linear_part sig symbols)) number (linear_part sig symbols)
+number_faithful sig symbols = record {
   zeros = λ i. refl;
   units = λ v k i h. (let e : 4 * v + 1 ≡ 4 * v + 1 + i = omega arith in ap (λ n. cond (k == n) 1 0) e);
-  combines = λ b f vs i h. ap (λ j. combined_entry (linear_part sig constants factors) b f (map number vs) j) (let e : 0 ≡ i = omega arith in e);
+  combines = λ b f vs i h. ap (λ j. combined_entry (linear_part sig symbols) b f (map number vs) j) (let e : 0 ≡ i = omega arith in e);
   tests = λ c. same_test (nat_le c reach) (nat_le c reach && true) (λ h. both (nat_le c reach) true h tt) (λ h. fst_of (nat_le c reach) true h);
 }
 
--- one argument more
-pub weighed_more : {C : Type 0} (P : Part) (e : C → ℕ → ℕ) (f i : ℕ) (vs : List C) (n : ℕ) (d : C) → n < length vs
-    → weighed P f n (map e (drop n vs)) i ≡ total P.dim (λ j. P.entry f n i j * e (slice_index_or vs n d) j) + weighed P f (n + 1) (map e (drop (n + 1) vs)) i
-weighed_more P e f i vs n d h =
-    ap (λ l. weighed P f n (map e l) i) (drop_more vs n d h)
-    ∙ ap (λ k. total P.dim (λ j. P.entry f n i j * e (slice_index_or vs n d) j) + weighed P f k (map e (drop (n + 1) vs)) i) (sym (add-one n))
-
-pub weighed-done : {C : Type 0} (P : Part) (e : C → ℕ → ℕ) (f i : ℕ) (vs : List C) (n : ℕ) → length vs ≤ n → weighed P f n (map e (drop n vs)) i ≡ 0
-weighed-done P e f i vs n h = ap (λ l. weighed P f n (map e l) i) (drop_all n vs h)
-
-pub product_small : (a v : ℕ) → a ≤ 255 → v ≤ reach → a * v ≤ 255 * reach
-product_small a v h k = mul-le-mul h k
-
-pub vectors_near : (P : Part) (vs : List (List ℕ)) → Every (vector_columns P).within vs → AllByRecursion (VectorNear P.dim) vs
-vectors_near P vs h =
-    All-weaker (λ v. vector_near P (vector v) ≡ true) (VectorNear P.dim)
-    (λ v e j l. leb→le (slice_index v j) reach (every-at P.dim (λ i. leb (slice_index v i) reach) (held _ e) j l)) vs h
-
--- a vector whose first entries were made one by one, each tested
-pub made_vector : (P : Part) (f : ℕ → ℕ) (xs : List ℕ) → P.dim ≤ 4 → length xs ≡ 4 → ((k : ℕ) → k < P.dim → slice_index xs k ≡ f k) → ((k : ℕ) → k < P.dim → slice_index xs k ≤ reach)
-    → ((k : ℕ) → P.dim ≤ k → slice_index xs k ≡ 0) → Some xs ≡ tested (vector_columns P).within (map (λ i. cond (nat_lt i P.dim) (f i) 0) (range_with_len 0 4))
-made_vector P f xs narrow long at small rest =
-    let same : xs ≡ map (λ i. cond (nat_lt i P.dim) (f i) 0) (range_with_len 0 4) =
-    fill_by_all (λ i. cond (nat_lt i P.dim) (f i) 0) xs 4 0 long (λ k h. elim (cases_lt k P.dim) [
-      | inl lt ↦ (at k lt ∙ sym (cond-true (nat_lt k P.dim) (f k) 0 (lt-ltb k P.dim lt)))
-      | inr ge ↦ (rest k ge ∙ sym (cond-false (nat_lt k P.dim) (f k) 0 (le-ltb k P.dim ge)))
+-- a vector whose first entries were made one by one, each tested, in front of zeros
+pub made_vector : (P : Part) (f : ℕ → ℕ) (xs : List ℕ) → P.dim ≤ 4 → length xs ≡ P.dim → ((k : ℕ) → k < P.dim → slice_index xs k ≡ f k) → ((k : ℕ) → k < P.dim → slice_index xs k ≤ reach)
+    → Some (xs ++ drop P.dim (vector_columns P).zero) ≡ tested (vector_columns P).within (map (λ i. cond (nat_lt i P.dim) (f i) 0) (range_with_len 0 4))
+made_vector P f xs narrow long at small =
+    let zeros = (vector_columns P).zero in
+    let whole = xs ++ drop P.dim zeros in
+    let same : whole ≡ map (λ i. cond (nat_lt i P.dim) (f i) 0) (range_with_len 0 4) =
+    fill_by_all (λ i. cond (nat_lt i P.dim) (f i) 0) whole 4 0 (omega (arith, length-append xs (drop P.dim zeros), length-drop P.dim zeros)) (λ k h. elim (cases_lt k P.dim) [
+      | inl lt ↦ (get_or_append_left xs (drop P.dim zeros) 0 k (omega arith) ∙ at k lt ∙ sym (cond-true (nat_lt k P.dim) (f k) 0 (lt-ltb k P.dim lt)))
+      | inr ge ↦ (get_or-append_right xs (drop P.dim zeros) P.dim k 0 long ge ∙ get_or-drop P.dim zeros (k - P.dim) 0 ∙ zero_entry (P.dim + (k - P.dim)) ∙ sym (cond-false (nat_lt k P.dim) (f k) 0 (le-ltb k P.dim ge)))
     ]) in
-    let good : vector_near P (vector xs) ≡ true = sym (every_holds P.dim (λ i. leb (slice_index xs i) reach) (λ k h. le→leb (slice_index xs k) reach (small k h))) in
-    sym (ap (tested (vector_columns P).within) (sym same) ∙ cond-true (vector_near P (vector xs)) (Some xs) None good)
+    let good : vector_near P (vector whole) ≡ true =
+    sym (every_holds P.dim (λ i. leb (slice_index whole i) reach) (λ k h. le→leb (slice_index whole k) reach (rw (get_or_append_left xs (drop P.dim zeros) 0 k (omega arith)) (small k h)))) in
+    sym (ap (tested (vector_columns P).within) (sym same) ∙ cond-true (vector_near P (vector whole)) (Some whole) None good)
 
 pub refused_vector : (P : Part) (f : ℕ → ℕ) (k : ℕ) → P.dim ≤ 4 → k < P.dim → reach < f k → None ≡ tested (vector_columns P).within (map (λ i. cond (nat_lt i P.dim) (f i) 0) (range_with_len 0 4))
 refused_vector P f k narrow h far =
@@ -78,14 +62,6 @@ refused_vector P f k narrow h far =
     get_or-map-range_with_len (λ i. cond (nat_lt i P.dim) (f i) 0) 0 4 k k 0 (omega arith) (omega arith) ∙ cond-true (nat_lt k P.dim) (f k) 0 (lt-ltb k P.dim h) in
     let bad : vector_near P (vector xs) ≡ false = sym (every_fails P.dim (λ i. leb (slice_index xs i) reach) k h (ap (λ n. leb n reach) is ∙ lt-leb (f k) reach far)) in
     sym (cond-false (vector_near P (vector xs)) (Some xs) None bad)
-
--- one entry more
-pub each_more : (Q : ℕ → ℕ → Type 0) (xs : List ℕ) (i x : ℕ) → i < length xs → ((k : ℕ) → k < i → Q k (slice_index xs k)) → Q i x → (k : ℕ) → k < i + 1 → Q k (slice_index (slice_set xs i x) k)
-each_more Q xs i x within below here =
-    below_more (λ k. Q k (slice_index (slice_set xs i x) k)) i (λ k h. let ne : k ≢ i = omega arith in rw get_or-set_other (below k h)) (rw get_or-set_same here)
-
-pub rest_more : (xs : List ℕ) (i x : ℕ) → ((k : ℕ) → i ≤ k → slice_index xs k ≡ 0) → (k : ℕ) → i + 1 ≤ k → slice_index (slice_set xs i x) k ≡ 0
-rest_more xs i x h k l = let ne : k ≢ i = omega arith in rw get_or-set_other (h k (omega arith))
 
 unit-near : (b : Bool) → T (nat_le (cond b 1 0) reach)
 unit-near true = tt

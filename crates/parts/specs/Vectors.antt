@@ -1,6 +1,6 @@
 -- Vectors of four entries, of which the first are used, and numbers in the place of vectors of one.
-use Rattle.std.specs.Prelude.{ℕ, ◌+◌, ◌*◌, ◌<◌, ◌≤◌, cond, List, [], ◌∷◌, map, ◌==◌, nat_le, nat_lt, slice_index}
-use Rattle.std.specs.List.{range_with_len}
+use Rattle.std.specs.Prelude.{ℕ, ◌+◌, ◌*◌, cond, List, [], ◌∷◌, map, ◌==◌, nat_le, nat_lt, slice_index, sum_by}
+use Rattle.std.specs.List.{range_with_len, zip}
 use Rattle.algebras.specs.Meanings.{reach}
 use Rattle.interpretations.specs.Parts.{Part}
 use Rattle.forms.specs.Columns.{Columns}
@@ -31,6 +31,6 @@ number_columns P = record {
   within = λ c. nat_le c reach;
 }
 
--- every used entry of a vector is within reach
-abbrev pub VectorNear : ℕ → List ℕ → Type 0
-VectorNear d v = (j : ℕ) → j < d → slice_index v j ≤ reach
+-- entries times values, place by place, added up
+abbrev pub dotted : List ℕ → List ℕ → ℕ
+dotted es vs = sum_by (λ p. p.0 * p.1) (zip es vs)

@@ -3,6 +3,7 @@
 
 pub mod linear;
 pub mod matrix;
+mod symbols;
 
-pub use linear::LinearPart;
-pub use matrix::{Matrices, Matrix, MatrixPart};
+pub use linear::{LinearPart, LinearSymbol};
+pub use matrix::{Matrix, MatrixPart, MatrixSymbol};

@@ -8,10 +8,16 @@ use terms::Signature;
 pub mod algebra;
 pub mod calls;
 
+// What a symbol adds, and the factor of each argument.
+#[derive(Clone, Copy)]
+pub struct LinearSymbol {
+    pub constant: u8,
+    pub factors: [u8; 4],
+}
+
 #[derive(Clone, Copy)]
 pub struct LinearPart {
     signature: Signature,
-    constants: [u8; 32],
-    factors: [[u8; 4]; 32],
-    ghost tops: { T (positive (linear_part (arities_of signature) constants factors)) },
+    symbols: [LinearSymbol; 32],
+    ghost tops: { T (positive (linear_part (arities_of signature) symbols)) },
 }

@@ -14,19 +14,19 @@ pub struct Matrix {
     pub rows: [[u8; 4]; 4],
 }
 
-// A symbol's matrices, one for each argument.
+// What a symbol adds, and the matrix of each argument.
 #[derive(Clone, Copy)]
-pub struct Matrices {
-    pub args: [Matrix; 4],
+pub struct MatrixSymbol {
+    pub constant: [u8; 4],
+    pub matrices: [Matrix; 4],
 }
 
 #[derive(Clone, Copy)]
 pub struct MatrixPart {
     signature: Signature,
     dimension: usize,
-    constants: [[u8; 4]; 32],
-    matrices: [Matrices; 32],
+    symbols: [MatrixSymbol; 32],
     ghost some: { 0 < dimension },
     ghost narrow: { dimension ≤ 4 },
-    ghost tops: { T (positive (matrix_part (arities_of signature) dimension constants matrices)) },
+    ghost tops: { T (positive (matrix_part (arities_of signature) dimension symbols)) },
 }

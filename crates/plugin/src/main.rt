@@ -19,10 +19,7 @@ fn print_ceiling<A: Algebra>(rt: &HostRuntime, name: &str, algebra: &A) -> io::R
     match algebra.ceiling(6) {
         Ok(Some(ceiling)) => println!(rt; "{name}: ceiling {ceiling}"),
         Ok(None) => println!(rt; "{name}: ceiling none"),
-        Err(fault) => {
-            let refusal = fault.refusal();
-            println!(rt; "{name}: {refusal}")
-        }
+        Err(fault) => println!(rt; "{name}: {fault}"),
     }
 }
 
@@ -32,10 +29,7 @@ fn print_review<A: Algebra>(rt: &HostRuntime, name: &str, algebra: &A) -> io::Re
     };
     match review(algebra, &system) {
         Ok(()) => println!(rt; "{name}: every rule is strict"),
-        Err(fault) => {
-            let refusal = fault.refusal();
-            println!(rt; "{name}: {refusal}")
-        }
+        Err(fault) => println!(rt; "{name}: {fault}"),
     }
 }
 

@@ -2,8 +2,8 @@
 ghost use Rattle.plugin.specs.Layer.{uncapped_means};
 ghost use Rattle.plugin.specs.Lawful.{uncapped_lawful};
 
-use algebras::{Algebra, AlgebraFault, Order};
-use terms::{MOST_TERM, Signature};
+use algebras::{Algebra, AlgebraFault, Order, check_size};
+use terms::Signature;
 
 #[derive(Clone, Copy)]
 pub struct Uncapped<A> {
@@ -33,9 +33,7 @@ impl<A: Algebra> Algebra for Uncapped<A> {
     }
 
     fn ceiling(&self, size: usize) -> Result<Option<u64>, AlgebraFault> {
-        if size < 1 || size > MOST_TERM {
-            return Err(AlgebraFault::SizeOutOfRange);
-        }
+        check_size(size)?;
         Ok(None)
     }
 }

@@ -1,5 +1,5 @@
 -- The law of printing: what is answered and written is what the trees say.
-use Rattle.std.proofs.Common.{◌≡◌, ℕ, ◌<◌, ◌≤◌, Bool, true, false, cond, T, List, [], ◌++◌, length, drop, is_ok, Ok, Err, Result, sym, refl, ap, ◌∙◌, subst, ap₂, subst₂, arith}
+use Rattle.std.proofs.Common.{◌≡◌, ℕ, ◌<◌, ◌≤◌, true, false, leb, T, List, [], ◌++◌, length, drop, sym, refl, ap, ◌∙◌, subst, subst₂, arith}
 use Rattle.std.proofs.lemmas.List.{take_at, drop_at}
 use Rattle.std.proofs.lemmas.Bool.{leb-false}
 use Rattle.terms.specs.Terms.{Term, codes}
@@ -16,12 +16,10 @@ use Rattle.reading.specs.Spelling.{over}
 use Rattle.reading.specs.Documents.{document, Phase.ended, start_term}
 use Rattle.reading.specs.Outcomes.{Outcome.accepted, outcome}
 use Rattle.reading.proofs.Texts.{term_text_exactly}
-use Rattle.printing.specs.declared.fault.PrintFault.{PrintFault}
-use Rattle.printing.specs.declared.fault.PrintFault.TheVariants.{NoTerm, TooShort}
 use Rattle.printing.specs.Texts.{text, spelled}
 use Rattle.printing.specs.Showing.{all_named}
-use Rattle.printing.specs.Replies.{is_printable, text_of, fits, print_reply, printed_memory}
-use Rattle.printing.specs.Laws.{Coded, Printed, Termless, Cramped, PrintedExactly}
+use Rattle.printing.specs.Replies.{is_printable, text_of}
+use Rattle.printing.specs.Laws.{Coded, Printed, Termless, Cramped}
 use Rattle.reading.proofs.Complete.{as_many, settled, over_signature}
 use Rattle.printing.proofs.Sound.{Sound, sound, over_names, codes_named}
 use Rattle.printing.proofs.Shows.{shows_term}
@@ -60,63 +58,35 @@ module _ (n : Naming) (s : Sound n) where
       (term_text_exactly v s.complete.consistent (settled n s.complete) s.complete.few_symbols (spelled v x.term)).complete cs
       record { term = x.term; named = x.named; spelled = words_back n s x.term x.named; coded = x.coded; short = x.short; fine = tt }
 
-  module _ (cs out : List ℕ) where
-    abbrev bytes : List ℕ
-    bytes = text_of n cs
-
-    printed : Coded v cs → Printed v cs out (length bytes) (bytes ++ drop (length bytes) out)
-    printed x =
-        let e = text-spelled cs x in
-        record {
-          of = x;
-          told = ap length e;
-          front = take_at bytes (drop (length bytes) out) (length bytes) refl ∙ e;
-          rest = drop_at bytes (drop (length bytes) out) (length bytes) refl;
-          tokens_back = words_back n s x.term x.named;
-          reads_back = read_back cs x;
-        }
-
-    cramped : Coded v cs → length out < length bytes → Cramped v cs out out
-    cramped x h = record { of = x; long = subst (λ (l : List ℕ). length out < length l) (text-spelled cs x) h; same = refl }
-
-    termless : is_printable n cs ≡ false → Termless v cs out out
-    termless e = record { none = λ t g h c. never _ (printable_of t cs g h c) e; same = refl }
-
-    -- what the tests come to
-    abbrev answer : Bool → Bool → Result ℕ PrintFault
-    answer is fit = cond is (cond fit (Ok (length bytes)) (Err TooShort)) (Err NoTerm)
-
-    abbrev memory : Bool → Bool → List ℕ
-    memory is fit = cond (is_ok (answer is fit)) (bytes ++ drop (length bytes) out) out
-
-    printed_by : (is fit : Bool) → is_printable n cs ≡ is → fits n cs out ≡ fit → PrintedExactly v cs out (answer is fit) (memory is fit)
-    printed_by true true e f = printed (coded_of cs (held _ e))
-    printed_by true false e f = cramped (coded_of cs (held _ e)) (leb-false _ _ f)
-    printed_by false fit e f = termless e
-
-    pub record Ending (r : Result ℕ PrintFault) (after : List ℕ) : Type 0 where
-      pub value : r ≡ print_reply n cs out
-      pub writes : after ≡ printed_memory n cs out
-      pub means : PrintedExactly v cs out r after
-
-    -- the two tests say what is answered, what is written and what that means
-    ends_by : (is fit : Bool) → is_printable n cs ≡ is → fits n cs out ≡ fit → (r : Result ℕ PrintFault) (after : List ℕ) → r ≡ answer is fit → after ≡ memory is fit → Ending r after
-    ends_by is fit e f r after a m = record {
-      value = a ∙ sym (ap₂ answer e f);
-      writes = m ∙ sym (ap₂ memory e f);
-      means = subst₂ (PrintedExactly v cs out) (sym a) (sym m) (printed_by is fit e f);
-    }
+  printed : (cs out : List ℕ) → Coded v cs → Printed v cs out (length (text_of n cs)) (text_of n cs ++ drop (length (text_of n cs)) out)
+  printed cs out x =
+      let bytes = text_of n cs in
+      let e = text-spelled cs x in
+      record {
+        of = x;
+        told = ap length e;
+        front = take_at bytes (drop (length bytes) out) (length bytes) refl ∙ e;
+        rest = drop_at bytes (drop (length bytes) out) (length bytes) refl;
+        tokens_back = words_back n s x.term x.named;
+        reads_back = read_back cs x;
+      }
 
 -- at each end of the call, under the names of the code
 module _ (x : Names) (cs out : List ℕ) where
-  abbrev Ends : Result ℕ PrintFault → List ℕ → Type 0
-  Ends r after = Ending (naming_of x) (sound x) cs out r after
+  abbrev names : Vocabulary
+  names = (naming_of x).vocabulary
 
-  pub no_term : false ≡ is_printable (naming_of x) cs → Ends (Err NoTerm) out
-  no_term e = ends_by (naming_of x) (sound x) cs out false _ (sym e) refl _ _ refl refl
+  pub no_term : false ≡ is_printable (naming_of x) cs → Termless names cs out out
+  no_term e = record { none = λ t g h c. never _ (printable_of (naming_of x) (sound x) t cs g h c) (sym e); same = refl }
 
-  pub too_short : true ≡ is_printable (naming_of x) cs → false ≡ fits (naming_of x) cs out → Ends (Err TooShort) out
-  too_short e f = ends_by (naming_of x) (sound x) cs out true false (sym e) (sym f) _ _ refl refl
+  coded : true ≡ is_printable (naming_of x) cs → Coded names cs
+  coded e = coded_of (naming_of x) (sound x) cs (held _ (sym e))
 
-  pub written : true ≡ is_printable (naming_of x) cs → true ≡ fits (naming_of x) cs out → (k : ℕ) (after : List ℕ) → k ≡ length (text_of (naming_of x) cs) → after ≡ text_of (naming_of x) cs ++ drop k out → Ends (Ok k) after
-  written e f k after len is = ends_by (naming_of x) (sound x) cs out true true (sym e) (sym f) _ _ (ap Ok len) (is ∙ ap (λ j. text_of (naming_of x) cs ++ drop j out) len)
+  pub too_short : true ≡ is_printable (naming_of x) cs → false ≡ leb (length (text_of (naming_of x) cs)) (length out) → Cramped names cs out out
+  too_short e f =
+      record { of = coded e; long = subst (λ (l : List ℕ). length out < length l) (text-spelled (naming_of x) (sound x) cs (coded e)) (leb-false _ _ (sym f)); same = refl }
+
+  pub written : true ≡ is_printable (naming_of x) cs → (k : ℕ) (after : List ℕ) → k ≡ length (text_of (naming_of x) cs) → after ≡ text_of (naming_of x) cs ++ drop k out → Printed names cs out k after
+  written e k after len is =
+      let there = is ∙ ap (λ j. text_of (naming_of x) cs ++ drop j out) len in
+      subst₂ (Printed names cs out) (sym len) (sym there) (printed (naming_of x) (sound x) cs out (coded e))

@@ -1,5 +1,6 @@
 -- The walk over the codes of a term shows the term's words.
-use Rattle.std.proofs.Common.{◌≡◌, ℕ, suc, ◌+◌, T, List, [], ◌∷◌, ◌++◌, get_or, Some, sym, refl, ap, ◌∙◌, append_assoc, append-nil, arith, ltb→lt}
+use Rattle.std.proofs.Common.{◌≡◌, ℕ, suc, ◌+◌, T, eqb, List, [], ◌∷◌, ◌++◌, get_or, Some, sym, refl, ap, ◌∙◌, ap₂, append_assoc, append-nil, arith, ltb→lt}
+use Rattle.std.proofs.lemmas.Bool.{cond-true, cond-false, eq-eqb, ne_eqb}
 use Rattle.tokens.specs.Tokens.{Word, Word.lpar, Word.comma, Word.named}
 use Rattle.terms.specs.Terms.{Term, Terms, Term.var, Term.app, Terms.none, Terms.more, count, codes, codes_all}
 use Rattle.terms.specs.Codes.{arity}
@@ -9,10 +10,17 @@ use Rattle.vocabulary.specs.Vocabularies.{Vocabulary}
 use Rattle.vocabulary.specs.Naming.{Naming}
 use Rattle.vocabulary.specs.Replies.{name_at}
 use Rattle.reading.specs.Spelling.{over, over_all, words, arguments, others}
-use Rattle.printing.specs.Showing.{followed, shown}
-use Rattle.printing.proofs.Stepping.{shows_leaf, shows_node}
+use Rattle.printing.specs.Showing.{followed, led, shown}
 use Rattle.reading.proofs.Complete.{Complete, head_of}
 use Rattle.printing.proofs.Sound.{few, variable_name, symbol_name}
+
+-- a code that has a name, without arguments or with some
+module _ (n : Naming) (ps : List ℕ) (c : ℕ) (cs m : List ℕ) (e : name_at n.vocabulary c ≡ Some m) where
+  shows_leaf : arity n.signature c ≡ 0 → shown n ps (c ∷ cs) ≡ named m ∷ followed ps (λ qs. shown n qs cs)
+  shows_leaf z = ap₂ led e (cond-true (eqb (arity n.signature c) 0) _ _ (eq-eqb _ 0 z))
+
+  shows_node : (arity n.signature c ≡ 0 → ⊥) → shown n ps (c ∷ cs) ≡ named m ∷ lpar ∷ shown n (arity n.signature c ∷ ps) cs
+  shows_node z = ap₂ led e (cond-false (eqb (arity n.signature c) 0) _ _ (ne_eqb _ 0 z))
 
 module _ (n : Naming) (s : Complete n) where
   abbrev v : Vocabulary

@@ -1,6 +1,7 @@
 -- What holds of all names: each is a name of its own; and a term over the names is one over the signature whose codes
 -- have names.
-use Rattle.std.proofs.Common.{◌≡◌, ℕ, zero, suc, ◌+◌, ◌<◌, ◌≤◌, Bool, true, false, ◌&&◌, T, eqb, ltb, List, [], ◌∷◌, ◌++◌, length, get_or, is_some, Some, None, Option, sym, refl, subst, arith, ltb→lt, lt→ltb}
+use Rattle.std.proofs.Common.{◌≡◌, ℕ, zero, suc, ◌+◌, ◌<◌, ◌≤◌, ◌&&◌, T, eqb, ltb, List, [], ◌∷◌, length, get_or, is_some, Some, None, Option, sym, refl, subst, arith, ltb→lt, lt→ltb}
+use Rattle.std.proofs.lemmas.List.Folds.{list_all-append}
 use Rattle.bounded.specs.Items.{items}
 use Rattle.tokens.specs.Bytes.{is_name}
 use Rattle.tokens.specs.declared.name.Name.{Name}
@@ -8,7 +9,7 @@ use Rattle.terms.specs.Terms.{Term, Terms, Term.var, Term.app, Terms.none, Terms
 use Rattle.terms.specs.Terms as signed
 use Rattle.terms.proofs.Booleans.{both, fst_of, snd_of}
 use Rattle.vocabulary.specs.declared.names.Names.{Names}
-use Rattle.vocabulary.specs.Vocabularies.{Vocabulary, names}
+use Rattle.vocabulary.specs.Vocabularies.{Vocabulary, names, symbol_names}
 use Rattle.vocabulary.specs.Naming.{Naming, naming_of}
 use Rattle.vocabulary.specs.Replies.{name_at}
 use Rattle.vocabulary.specs.Laws as law
@@ -33,19 +34,11 @@ pub record Sound (n : Naming) : Type 0 where
   pub plain_variables : Plain n.vocabulary.variables
 
 pub sound : (x : Names) → Sound (naming_of x)
-sound x = record { complete = complete_names x; plain_symbols = plain_names (items x.vocabulary.symbols); plain_variables = plain_names (items x.vocabulary.variables) }
+sound x = record { complete = complete_names x; plain_symbols = plain_names (symbol_names (items x.vocabulary.symbols)); plain_variables = plain_names (items x.vocabulary.variables) }
 
 named_below : (v : Vocabulary) (m : List ℕ) (c : ℕ) → length v.symbols ≤ 32 → law.Names v m c → c < 32768 + length v.variables
 named_below v m _ few (variable x h e) = omega arith
 named_below v m _ few (symbol f h e) = omega arith
-
-all_named-append : (v : Vocabulary) (xs ys : List ℕ) → all_named v (xs ++ ys) ≡ (all_named v xs && all_named v ys)
-all_named-append v [] ys = refl
-all_named-append v (x ∷ xs) ys = by (is_some (name_at v x)) (all_named-append v xs ys)
-  where
-    by : (b : Bool) → all_named v (xs ++ ys) ≡ (all_named v xs && all_named v ys) → (b && all_named v (xs ++ ys)) ≡ ((b && all_named v xs) && all_named v ys)
-    by true ih = ih
-    by false ih = refl
 
 module _ (n : Naming) (s : Complete n) where
   abbrev v : Vocabulary
@@ -82,7 +75,7 @@ module _ (n : Naming) (s : Complete n) where
     all_over_names : (ts : Terms) → T (signed.over_all sig ts) → T (all_named v (codes_all ts)) → T (over_all v ts)
     all_over_names none g h = tt
     all_over_names (more t ts) g h =
-        let k = subst T (all_named-append v (codes t) (codes_all ts)) h in
+        let k = subst T (list_all-append (λ c. is_some (name_at v c)) (codes t) (codes_all ts)) h in
         both _ _ (over_names t (fst_of (signed.over sig t) _ g) (fst_of (all_named v (codes t)) _ k))
         (all_over_names ts (snd_of (signed.over sig t) _ g) (snd_of (all_named v (codes t)) _ k))
 
@@ -97,4 +90,4 @@ module _ (n : Naming) (s : Complete n) where
     all_codes_named : (ts : Terms) → T (over_all v ts) → T (all_named v (codes_all ts))
     all_codes_named none g = tt
     all_codes_named (more t ts) g =
-        subst T (sym (all_named-append v (codes t) (codes_all ts))) (both _ _ (codes_named t (fst_of (over v t) _ g)) (all_codes_named ts (snd_of (over v t) _ g)))
+        subst T (sym (list_all-append (λ c. is_some (name_at v c)) (codes t) (codes_all ts))) (both _ _ (codes_named t (fst_of (over v t) _ g)) (all_codes_named ts (snd_of (over v t) _ g)))

@@ -1,5 +1,6 @@
 -- The words of codes, by one walk with a stack: how many arguments each symbol still awaits, innermost first.
-use Rattle.std.specs.Prelude.{ℕ, zero, suc, Bool, true, cond, ◌&&◌, List, [], ◌∷◌, is_some, Some, None, Option, ◌==◌}
+use Rattle.std.specs.Prelude.{ℕ, zero, suc, Bool, cond, List, [], ◌∷◌, is_some, Some, None, Option, ◌==◌}
+use Rattle.std.specs.List.{list_all}
 use Rattle.tokens.specs.Tokens.{Word, Word.lpar, Word.rpar, Word.comma, Word.named}
 use Rattle.terms.specs.Codes.{arity}
 use Rattle.vocabulary.specs.Vocabularies.{Vocabulary}
@@ -27,5 +28,4 @@ shown n ps (c ∷ cs) =
 
 -- whether each code has a name
 abbrev pub all_named : Vocabulary → List ℕ → Bool
-all_named v [] = true
-all_named v (c ∷ cs) = is_some (name_at v c) && all_named v cs
+all_named v cs = list_all (λ c. is_some (name_at v c)) cs

@@ -1,8 +1,10 @@
 // Why a term is not printed.
-ghost use Rattle.std.specs.Prelude.{◌≡◌};
+ghost use Rattle.std.specs.Prelude.{◌≡◌, Some};
+ghost use Rattle.refusals.specs.Lines.{line};
 ghost use Rattle.printing.specs.Replies.{print_refusal};
 
 use refusals::{Layer, Refusal};
+use std::fmt;
 
 #[derive(Clone, Copy, PartialEq, Eq, Debug)]
 pub enum PrintFault {
@@ -12,11 +14,11 @@ pub enum PrintFault {
     TooShort,
 }
 
-impl PrintFault {
-    pub fn refusal(&self) -> Refusal
-        ensures { result ≡ print_refusal self.now }
-    {
-        let number = match self {
+impl From<PrintFault> for Refusal {
+    ghost from_gives = { λ fault refusal. refusal ≡ print_refusal fault };
+
+    fn from(fault: PrintFault) -> Refusal {
+        let number = match fault {
             PrintFault::NoTerm => 36,
             PrintFault::TooShort => 23,
         };
@@ -25,5 +27,13 @@ impl PrintFault {
             layer: Layer::Term,
             place: 0,
         }
+    }
+}
+
+impl fmt::Display for PrintFault {
+    ghost output = { λ fault. Some (line (print_refusal fault)) };
+
+    fn fmt<W: fmt::Write>(&self, f: &mut fmt::Formatter<W>) -> fmt::Result {
+        Refusal::from(*self).fmt(f)
     }
 }

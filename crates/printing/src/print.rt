@@ -1,9 +1,11 @@
 // Terms as text.
-ghost use Rattle.std.specs.Prelude.{◌≡◌, ◌+◌, ◌≤◌, ◌++◌, length, take, drop, IfOk, nat_le};
+ghost use Rattle.std.specs.Prelude.{◌≡◌, ◌≤◌, ◌++◌, length, drop, IfOk, nat_le};
 ghost use Rattle.vocabulary.specs.Models.{vocabulary_of};
 ghost use Rattle.vocabulary.specs.Naming.{naming_of};
+ghost use Rattle.printing.specs.Texts.{text};
 ghost use Rattle.printing.specs.Showing.{all_named};
-ghost use Rattle.printing.specs.Replies.{is_printable, text_of, print_reply, printed_memory};
+ghost use Rattle.printing.specs.Spellers.{words_left};
+ghost use Rattle.printing.specs.Replies.{is_printable, print_reply, printed_memory};
 ghost use Rattle.printing.specs.Laws.{PrintedExactly};
 
 use crate::fault::PrintFault;
@@ -14,66 +16,47 @@ use vocabulary::{Names, Vocabulary};
 fn are_named(vocabulary: &Vocabulary, codes: &[u16]) -> bool
     ensures { result ≡ all_named (vocabulary_of vocabulary.now) codes.now }
 {
-    for code in codes {
-        if vocabulary.name_of(*code).is_none() {
-            return false;
-        }
-    }
-    true
+    codes.iter().all(|code| vocabulary.name_of(*code).is_some())
 }
 
 // A term over the signature may still have variables that are not declared.
 fn is_printable(names: &Names, codes: &[u16]) -> bool
     ensures { result ≡ is_printable (naming_of names.now) codes.now }
 {
-    if !names.signature().is_term(codes) {
-        return false;
-    }
-    are_named(names.vocabulary(), codes)
+    names.signature().is_term(codes) && are_named(names.vocabulary(), codes)
 }
 
-// Whether the text of the codes has at most `room` bytes.
-fn fits<'a>(names: &'a Names, codes: &'a [u16], room: usize) -> bool
-    requires { length codes.now ≤ 1024 }
-    ensures { result ≡ nat_le (length (text_of (naming_of names.now) codes.now)) room }
+// Whether the text to come has at most `room` bytes.
+fn fits(speller: Speller, room: usize) -> bool
+    ensures { result ≡ nat_le (length (text (words_left speller.entry))) room }
 {
-    let mut speller = Speller::new(names, codes);
     let mut left = room;
-    while let Some(piece) = speller.next() {
-        let bytes = piece.bytes().len();
-        if bytes > left {
+    for piece in speller {
+        let Some(rest) = left.checked_sub(piece.bytes().len()) else {
             return false;
-        }
-        left -= bytes;
+        };
+        left = rest;
     }
     true
 }
 
-fn put(out: &mut [u8], at: usize, bytes: &[u8])
-    requires { at + length bytes.now ≤ length out.old }
-    ensures { out.new ≡ take at out.old ++ (bytes.now ++ drop (at + length bytes.now) out.old) }
+// Writes the text to come to the front of memory that has room for it.
+fn write(speller: Speller, out: &mut [u8]) -> usize
+    requires { length (text (words_left speller)) ≤ length out.old }
+    ensures len { result ≡ length (text (words_left speller.entry)) }
+    ensures after { out.new ≡ text (words_left speller.entry) ++ drop result out.old }
 {
-    out[at..at + bytes.len()].copy_from_slice(bytes);
-}
-
-// Writes the text of the codes to the front of memory that has room for it.
-fn write<'a>(names: &'a Names, codes: &'a [u16], out: &mut [u8]) -> usize
-    requires short { length codes.now ≤ 1024 }
-    requires fits { length (text_of (naming_of names.now) codes.now) ≤ length out.old }
-    ensures len { result ≡ length (text_of (naming_of names.now) codes.now) }
-    ensures after { out.new ≡ text_of (naming_of names.now) codes.now ++ drop result out.old }
-{
-    let mut speller = Speller::new(names, codes);
     let mut at = 0;
-    while let Some(piece) = speller.next() {
+    for piece in speller {
         let bytes = piece.bytes();
-        put(out, at, bytes);
+        out[at..at + bytes.len()].copy_from_slice(bytes);
         at += bytes.len();
     }
     at
 }
 
 // Writes the text of codes with names, without blanks, and answers its length; nothing beyond it is touched.
+#[tactic(auto, using(crate::proofs::Exactly::no_term, crate::proofs::Exactly::too_short, crate::proofs::Exactly::written))]
 pub fn print_term(names: &Names, codes: &[u16], out: &mut [u8]) -> Result<usize, PrintFault>
     ensures value { result ≡ print_reply (naming_of names.now) codes.now out.old }
     ensures after { out.new ≡ printed_memory (naming_of names.now) codes.now out.old }
@@ -84,8 +67,8 @@ pub fn print_term(names: &Names, codes: &[u16], out: &mut [u8]) -> Result<usize,
         return Err(PrintFault::NoTerm);
     }
     // Measured before anything is written, since a refusal writes nothing.
-    if !fits(names, codes, out.len()) {
+    if !fits(Speller::new(names, codes), out.len()) {
         return Err(PrintFault::TooShort);
     }
-    Ok(write(names, codes, out))
+    Ok(write(Speller::new(names, codes), out))
 }

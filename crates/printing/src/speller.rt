@@ -1,5 +1,5 @@
 // A walk over codes that hands out the words they are printed as.
-ghost use Rattle.std.specs.Prelude.{◌≤◌, length};
+ghost use Rattle.std.specs.Prelude.{◌+◌, ◌≤◌, length};
 ghost use Rattle.bounded.specs.Items.{items};
 
 use bounded::ArrayVec;
@@ -19,11 +19,9 @@ pub(crate) enum Wants {
 pub(crate) struct Speller<'a> {
     names: &'a Names,
     codes: &'a [u16],
-    pos: usize,
     // How many arguments each symbol still awaits, innermost last.
     pending: ArrayVec<u8, 1024>,
     wants: Wants,
-    ghost short: { length codes.now ≤ 1024 },
-    ghost within: { pos ≤ length codes.now },
-    ghost nested: { length (items pending) ≤ pos },
+    // Each pending symbol is one of at most 1,024 codes.
+    ghost room: { length (items pending) + length codes.now ≤ 1024 },
 }

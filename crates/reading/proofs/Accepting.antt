@@ -3,8 +3,6 @@ use Rattle.std.proofs.Common.{◌≡◌, ℕ, Bool, true, false, cond, List, [],
 use Rattle.std.proofs.lemmas.Bool.{cond-true, cond-false}
 use Rattle.tokens.specs.Tokens.{Word, Word.lpar, Word.rpar, Word.comma, Word.arrow, Word.named, Word.long, Word.illegal, Tok}
 use Rattle.terms.specs.Models.{Sides}
-use Rattle.terms.proofs.Booleans.{clash}
-use Rattle.vocabulary.specs.declared.flaw.Flaw.{Flaw}
 use Rattle.vocabulary.specs.declared.flaw.Flaw.TheVariants.{Misplaced}
 use Rattle.vocabulary.specs.Vocabularies.{Vocabulary}
 use Rattle.reading.specs.declared.state.Use.{Use}
@@ -31,19 +29,16 @@ run_accepts end d [] e h = by (may_end d.phase) h
   where
     by : (b : Bool) → cond b (accepted d) (refused Misplaced end) ≡ accepted e → (b ≡ true) × (d ≡ e)
     by true k = (refl, cc)
-    by false k = clash (cc)
+    by false k = cc
 run_accepts end d (t ∷ ts) e h = by (λ d1. run_accepts end d1 ts e) (move d t.word (bare_tokens ts)) refl h
   where
     by : ((d1 : Document) → run end d1 ts ≡ accepted e → Accepts d1 (spell ts) e) → (m : Move) → move d t.word (bare_tokens ts) ≡ m → run_on t.at (λ d1. run end d1 ts) m ≡ accepted e → Accepts d (spell (t ∷ ts)) e
     by ih (to d1) q k = (d1, ap (move d t.word) (sym (same_bare ts)) ∙ q, ih d1 k)
-    by ih (flawed f) q k = clash (cc)
+    by ih (flawed f) q k = cc
 
 pub accepts_run : (end : ℕ) (d : Document) (ts : List Tok) (e : Document) → Accepts d (spell ts) e → run end d ts ≡ accepted e
 accepts_run end d [] e h = cond-true _ _ _ h.0 ∙ ap accepted h.1
 accepts_run end d (t ∷ ts) e (d1, m, h) = ap (run_on t.at (λ d1. run end d1 ts)) (ap (move d t.word) (same_bare ts) ∙ m) ∙ accepts_run end d1 ts e h
-
-pub never_flawed : {X : Type 0} {d : Document} {f : Flaw} → flawed f ≡ to d → X
-never_flawed e = clash (cc)
 
 -- what is accepted from where a move goes
 pub arrives : {d d1 : Document} (ws : List Word) (e : Document) → to d ≡ to d1 → Accepts d1 ws e → Accepts d ws e
@@ -62,7 +57,7 @@ pub record TermFirst (p : Role) (v : Vocabulary) (s : State) (rs : List Sides) (
 
 module _ (p : Role) (rs : List Sides) where
   pub term_first : (v : Vocabulary) (s : State) (ws : List Word) (e : Document) → Accepts (document v rs (inside p s)) ws e → TermFirst p v s rs ws e
-  term_first v s [] e h = clash (cc)
+  term_first v s [] e h = cc
   term_first v s (w ∷ ws) e (d1, m, h) = by (λ v1 s1. term_first v1 s1 ws e) (step p v s w (bare_words ws)) refl m
     where
       turn : ((v1 : Vocabulary) (s1 : State) → Accepts (document v1 rs (inside p s1)) ws e → TermFirst p v1 s1 rs ws e) → (v1 : Vocabulary) (s1 : State) → step p v s w (bare_words ws) ≡ go v1 s1
@@ -91,7 +86,7 @@ module _ (p : Role) (rs : List Sides) where
           }
 
       by : ((v1 : Vocabulary) (s1 : State) → Accepts (document v1 rs (inside p s1)) ws e → TermFirst p v1 s1 rs ws e) → (r : Reply) → step p v s w (bare_words ws) ≡ r → continued p rs r ≡ to d1 → TermFirst p v s rs (w ∷ ws) e
-      by ih (stop f) q k = never_flawed k
+      by ih (stop f) q k = cc
       by ih (go v1 s1) q k = turn ih v1 s1 q (is_whole s1) refl k
 
   pub first_read : {v : Vocabulary} {ws : List Word} {e : Document} (t : TermFirst p v fresh rs ws e) → Read p v t.front t.after t.state.codes t.grown
@@ -99,17 +94,17 @@ module _ (p : Role) (rs : List Sides) where
 
   -- nothing is read behind a whole term
   whole_stops : {X : Type 0} (v v1 : Vocabulary) (cs : List ℕ) (us : List Use) (a : Await) (w : Word) (b : Bool) (s1 : State) → whole us a ≡ true → step_by p v (record { codes = cs; uses = us; awaits = a }) b w a ≡ go v1 s1 → X
-  whole_stops v v1 cs (u ∷ us) a w b s1 i h = clash (cc)
-  whole_stops v v1 cs [] WantsTerm w b s1 i h = clash (cc)
-  whole_stops v v1 cs [] Bracket w b s1 i h = clash (cc)
-  whole_stops v v1 cs [] NoBracket w b s1 i h = clash (cc)
-  whole_stops v v1 cs [] After lpar b s1 i h = clash (cc)
-  whole_stops v v1 cs [] After rpar b s1 i h = clash (cc)
-  whole_stops v v1 cs [] After comma b s1 i h = clash (cc)
-  whole_stops v v1 cs [] After arrow b s1 i h = clash (cc)
-  whole_stops v v1 cs [] After (named n) b s1 i h = clash (cc)
-  whole_stops v v1 cs [] After long b s1 i h = clash (cc)
-  whole_stops v v1 cs [] After illegal b s1 i h = clash (cc)
+  whole_stops v v1 cs (u ∷ us) a w b s1 i h = cc
+  whole_stops v v1 cs [] WantsTerm w b s1 i h = cc
+  whole_stops v v1 cs [] Bracket w b s1 i h = cc
+  whole_stops v v1 cs [] NoBracket w b s1 i h = cc
+  whole_stops v v1 cs [] After lpar b s1 i h = cc
+  whole_stops v v1 cs [] After rpar b s1 i h = cc
+  whole_stops v v1 cs [] After comma b s1 i h = cc
+  whole_stops v v1 cs [] After arrow b s1 i h = cc
+  whole_stops v v1 cs [] After (named n) b s1 i h = cc
+  whole_stops v v1 cs [] After long b s1 i h = cc
+  whole_stops v v1 cs [] After illegal b s1 i h = cc
 
   -- more of a term is to come as long as words of it are read
   not_whole : {v v2 : Vocabulary} {s s2 : State} {f : Flagged} {fs : List Flagged} → Reads p v s (f ∷ fs) v2 s2 → is_whole s ≡ false

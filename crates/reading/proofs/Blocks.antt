@@ -7,7 +7,6 @@ use Rattle.std.proofs.lemmas.Bool.{cond-true, cond-false, leb-false, lt-leb}
 use Rattle.tokens.specs.Tokens.{Word, Word.lpar, Word.rpar, Word.comma, Word.arrow, Word.named, Word.long, Word.illegal}
 use Rattle.terms.specs.Limits.{variables}
 use Rattle.terms.specs.Models.{Sides}
-use Rattle.terms.proofs.Booleans.{clash}
 use Rattle.vocabulary.specs.declared.flaw.Flaw.TheVariants.{Misplaced, TooMany, DeclaredTwice}
 use Rattle.vocabulary.specs.Vocabularies.{Vocabulary, found, var_or, code_of, Consistent}
 use Rattle.vocabulary.proofs.Calls.{is_none}
@@ -17,7 +16,7 @@ use Rattle.reading.specs.declared.state.Block.{Block}
 use Rattle.reading.specs.declared.state.Block.TheVariants.{Rules}
 use Rattle.reading.specs.Documents.{Document, document, Phase.bracket, Phase.keyword, Phase.variable, Move.to, Move.flawed, word_for, behind_keyword}
 use Rattle.reading.specs.Grammar.{names as name-words}
-use Rattle.reading.proofs.Accepting.{Accepts, never_flawed, arrives}
+use Rattle.reading.proofs.Accepting.{Accepts, arrives}
 
 -- a block's bracket and the word that names it, with what follows
 pub record Headed (v : Vocabulary) (rs : List Sides) (k : Block) (ws : List Word) (e : Document) : Type 0 where
@@ -27,28 +26,28 @@ pub record Headed (v : Vocabulary) (rs : List Sides) (k : Block) (ws : List Word
 
 module _ (v : Vocabulary) (rs : List Sides) (k : Block) (e : Document) where
   keyed : (ws : List Word) → Accepts (document v rs (keyword k)) ws e → Headed v rs k (lpar ∷ ws) e
-  keyed [] h = clash (cc)
-  keyed (lpar ∷ ws) (d, m, h) = never_flawed m
-  keyed (rpar ∷ ws) (d, m, h) = never_flawed m
-  keyed (comma ∷ ws) (d, m, h) = never_flawed m
-  keyed (arrow ∷ ws) (d, m, h) = never_flawed m
+  keyed [] h = cc
+  keyed (lpar ∷ ws) (d, m, h) = cc
+  keyed (rpar ∷ ws) (d, m, h) = cc
+  keyed (comma ∷ ws) (d, m, h) = cc
+  keyed (arrow ∷ ws) (d, m, h) = cc
   keyed (named n ∷ ws) (d, m, h) = by (bytes_eq n (word_for k)) refl m
     where
       by : (b : Bool) → bytes_eq n (word_for k) ≡ b → cond b (to (document v rs (behind_keyword k))) (flawed Misplaced) ≡ to d → Headed v rs k (lpar ∷ named n ∷ ws) e
       by true q i = record { rest = ws; split = ap (λ l. lpar ∷ named l ∷ ws) ((bytes_eq-Decides n (word_for k)).0 q); goes = arrives ws e i h }
-      by false q i = never_flawed i
-  keyed (long ∷ ws) (d, m, h) = never_flawed m
-  keyed (illegal ∷ ws) (d, m, h) = never_flawed m
+      by false q i = cc
+  keyed (long ∷ ws) (d, m, h) = cc
+  keyed (illegal ∷ ws) (d, m, h) = cc
 
   pub headed : (ws : List Word) → Accepts (document v rs (bracket k)) ws e → Headed v rs k ws e
-  headed [] h = clash (cc)
+  headed [] h = cc
   headed (lpar ∷ ws) (d, m, h) = keyed ws (arrives ws e m h)
-  headed (rpar ∷ ws) (d, m, h) = never_flawed m
-  headed (comma ∷ ws) (d, m, h) = never_flawed m
-  headed (arrow ∷ ws) (d, m, h) = never_flawed m
-  headed (named n ∷ ws) (d, m, h) = never_flawed m
-  headed (long ∷ ws) (d, m, h) = never_flawed m
-  headed (illegal ∷ ws) (d, m, h) = never_flawed m
+  headed (rpar ∷ ws) (d, m, h) = cc
+  headed (comma ∷ ws) (d, m, h) = cc
+  headed (arrow ∷ ws) (d, m, h) = cc
+  headed (named n ∷ ws) (d, m, h) = cc
+  headed (long ∷ ws) (d, m, h) = cc
+  headed (illegal ∷ ws) (d, m, h) = cc
 
   pub head_accepted : (rest : List Word) → Accepts (document v rs (behind_keyword k)) rest e → Accepts (document v rs (bracket k)) (lpar ∷ named (word_for k) ∷ rest) e
   head_accepted rest h = (document v rs (keyword k), refl, (document v rs (behind_keyword k), cond-true _ _ _ ((bytes_eq-Decides (word_for k) (word_for k)).1 refl), h))
@@ -67,8 +66,8 @@ pub record Declares (ks : List (List ℕ)) (ws : List Word) (e : Document) : Typ
   pub goes : Accepts (document (declared (ks ++ more)) [] (bracket Rules)) rest e
 
 pub declares : (ws : List Word) (ks : List (List ℕ)) (e : Document) → Consistent (declared ks) → length ks ≤ variables → Accepts (document (declared ks) [] variable) ws e → Declares ks ws e
-declares [] ks e c few h = clash (cc)
-declares (lpar ∷ ws) ks e c few (d, m, h) = never_flawed m
+declares [] ks e c few h = cc
+declares (lpar ∷ ws) ks e c few (d, m, h) = cc
 declares (rpar ∷ ws) ks e c few (d, m, h) =
     let is : ks ≡ ks ++ [] = sym (append-nil ks) in
     record {
@@ -79,14 +78,14 @@ declares (rpar ∷ ws) ks e c few (d, m, h) =
       few = subst (λ (l : List (List ℕ)). length l ≤ variables) is few;
       goes = subst (λ l. Accepts (document (declared l) [] (bracket Rules)) ws e) is (arrives ws e m h);
     }
-declares (comma ∷ ws) ks e c few (d, m, h) = never_flawed m
-declares (arrow ∷ ws) ks e c few (d, m, h) = never_flawed m
+declares (comma ∷ ws) ks e c few (d, m, h) = cc
+declares (arrow ∷ ws) ks e c few (d, m, h) = cc
 declares (named n ∷ ws) ks e c few (d, m, h) = by (declares ws (ks ++ n ∷ []) e) (leb variables (length ks)) (is_some (code_of (declared ks) n)) refl refl m
   where
     by : (Consistent (declared (ks ++ n ∷ [])) → length (ks ++ n ∷ []) ≤ variables → Accepts (document (declared (ks ++ n ∷ [])) [] variable) ws e → Declares (ks ++ n ∷ []) ws e) → (s t : Bool)
         → leb variables (length ks) ≡ s → is_some (code_of (declared ks) n) ≡ t → cond s (flawed TooMany) (cond t (flawed DeclaredTwice) (to (document (declared (ks ++ n ∷ [])) [] variable))) ≡ to d → Declares ks (named n ∷ ws) e
-    by ih true t p q i = never_flawed i
-    by ih false true p q i = never_flawed i
+    by ih true t p q i = cc
+    by ih false true p q i = cc
     by ih false false p q i =
         let new = consistent_variable (declared ks) n (is_none (code_of (declared ks) n) q) c in
         let room : length (ks ++ n ∷ []) ≤ variables = let l = leb-false variables (length ks) p in let a = length-append ks (n ∷ []) in omega arith in
@@ -100,8 +99,8 @@ declares (named n ∷ ws) ks e c few (d, m, h) = by (declares ws (ks ++ n ∷ []
           few = subst (λ (l : List (List ℕ)). length l ≤ variables) is r.few;
           goes = subst (λ l. Accepts (document (declared l) [] (bracket Rules)) r.rest e) is r.goes;
         }
-declares (long ∷ ws) ks e c few (d, m, h) = never_flawed m
-declares (illegal ∷ ws) ks e c few (d, m, h) = never_flawed m
+declares (long ∷ ws) ks e c few (d, m, h) = cc
+declares (illegal ∷ ws) ks e c few (d, m, h) = cc
 
 module _ (w : Vocabulary) (names : Consistent w) (few : length w.variables ≤ variables) where
   -- a name that is still to be declared stands for nothing

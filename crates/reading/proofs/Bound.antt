@@ -1,6 +1,6 @@
 -- The variables of a right side are those of the left.
-use Rattle.std.proofs.Common.{◌≡◌, ℕ, ◌+◌, ◌<◌, Bool, true, false, not, ◌&&◌, ◌||◌, ltb, List, [], ◌∷◌, ◌++◌, sym, refl, ap, ◌∙◌, arith}
-use Rattle.std.proofs.lemmas.Bool.{lt-ltb, le-ltb, and_parts}
+use Rattle.std.proofs.Common.{◌≡◌, ℕ, ◌+◌, ◌<◌, true, false, not, ◌&&◌, ◌||◌, ltb, List, [], ◌∷◌, ◌++◌, sym, refl, ap, ◌∙◌, arith}
+use Rattle.std.proofs.lemmas.Bool.{lt-ltb, le-ltb, and_parts, and_from, or_right, not-false}
 use Rattle.terms.specs.Shapes.{has, covers}
 use Rattle.terms.proofs.RuleCodes.{covers-append}
 use Rattle.reading.specs.Sides.{Role, Role.left, Role.right, Role.start, is_absent}
@@ -20,18 +20,6 @@ fine_present (right ls) x h =
     ap not b
 fine_present start x h = refl
 
-both_true : (a b : Bool) → a ≡ true → b ≡ true → a && b ≡ true
-both_true true b x y = y
-both_true false b x y = x
-
-or_right : (a b : Bool) → b ≡ true → a || b ≡ true
-or_right true b x = refl
-or_right false b x = x
-
-not_false : (b : Bool) → not b ≡ false → b ≡ true
-not_false true e = refl
-not_false false e = sym e
-
 pub fine_none : (p : Role) → Fine p []
 fine_none left = tt
 fine_none (right ls) = refl
@@ -39,7 +27,7 @@ fine_none start = tt
 
 pub fine_join : (p : Role) (xs ys : List ℕ) → Fine p xs → Fine p ys → Fine p (xs ++ ys)
 fine_join left xs ys a b = tt
-fine_join (right ls) xs ys a b = covers-append ls xs ys ∙ both_true (covers ls xs) (covers ls ys) a b
+fine_join (right ls) xs ys a b = covers-append ls xs ys ∙ and_from (covers ls xs) (covers ls ys) a b
 fine_join start xs ys a b = tt
 
 pub fine_symbol : (p : Role) (c : ℕ) → c < 32768 → Fine p (c ∷ [])
@@ -49,5 +37,5 @@ fine_symbol start c h = tt
 
 pub fine_variable : (p : Role) (c : ℕ) → is_absent p c ≡ false → Fine p (c ∷ [])
 fine_variable left c h = tt
-fine_variable (right ls) c h = both_true (ltb c 32768 || has ls c) true (or_right (ltb c 32768) (has ls c) (not_false (has ls c) h)) refl
+fine_variable (right ls) c h = and_from (ltb c 32768 || has ls c) true (or_right (ltb c 32768) (has ls c) (not-false (has ls c) h)) refl
 fine_variable start c h = tt

@@ -8,7 +8,7 @@ use Rattle.terms.specs.Terms as signed
 use Rattle.terms.specs.Shapes.{is_rule, starts_with_symbol, covers}
 use Rattle.terms.specs.Codes.{is_term}
 use Rattle.terms.specs.Models.{Sides, all_rules}
-use Rattle.terms.proofs.Booleans.{both, fst_of, snd_of, held, clash}
+use Rattle.terms.proofs.Booleans.{both, fst_of, snd_of, held}
 use Rattle.terms.proofs.Exactly.{is_term_of, is_rule_of}
 use Rattle.terms.proofs.RuleCodes.{headed_codes, bound_codes}
 use Rattle.terms.proofs.Places.{length_codes}
@@ -39,7 +39,7 @@ complete_names x = record {
 -- if each is fixed, all are
 pub settled_fixed : (xs : List (Option ℕ)) → ((f : ℕ) → f < length xs → is_some (get_or xs f None) ≡ true) → (ns : List ℕ) × (fixed_arities xs ≡ Some ns)
 settled_fixed [] h = ([], refl)
-settled_fixed (None ∷ xs) h = let z = h 0 (omega arith) in clash (cc)
+settled_fixed (None ∷ xs) h = let z = h 0 (omega arith) in cc
 settled_fixed (Some k ∷ xs) h = let ih = settled_fixed xs (λ f l. h (suc f) (omega arith)) in (k ∷ ih.0, ap (option_map (λ (ks : List ℕ). k ∷ ks)) ih.1)
 
 somes-at : (ns : List ℕ) (f : ℕ) → f < length ns → get_or (somes ns) f None ≡ Some (get_or ns f 0)

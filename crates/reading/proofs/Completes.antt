@@ -4,7 +4,7 @@ use Rattle.std.proofs.lemmas.List.{get_or_append_left, get_or-append_right, get_
 use Rattle.std.proofs.lemmas.Bool.{lt-ltb, le-ltb, lt-leb, eq-eqb, cond-true, cond-false, cases_eq, cases_lt}
 use Rattle.tokens.specs.Tokens.{Word, Word.lpar, Word.rpar, Word.comma, Word.arrow, Word.named, Word.long, Word.illegal}
 use Rattle.terms.specs.Terms.{Term, Terms, Term.var, Term.app, Terms.none, Terms.more, count, codes, codes_all}
-use Rattle.terms.proofs.Booleans.{fst_of, snd_of, clash}
+use Rattle.terms.proofs.Booleans.{fst_of, snd_of}
 use Rattle.reading.specs.declared.state.Use.{Use}
 use Rattle.reading.specs.declared.state.Await.{Await}
 use Rattle.reading.specs.declared.state.Await.TheVariants.{Term as WantsTerm, Bracket, After}
@@ -57,7 +57,7 @@ record Numbers (p : Role) (w v : Vocabulary) (n : List ℕ) (c : ℕ) (after : L
 allows_symbol : (p : Role) (w v : Vocabulary) (n : List ℕ) → Allows p w v → (found 0 v.symbols n ≡ None) → (c : ℕ) → found 0 w.symbols n ≡ Some c → Allows p w (with_symbol v n)
 allows_symbol left w v n a e c f = tt
 allows_symbol (right ls) w v n a e c f = tt
-allows_symbol start w v n a e c f = let z = ap (λ l. found 0 l n) a in clash (cc)
+allows_symbol start w v n a e c f = let z = ap (λ l. found 0 l n) a in cc
 
 no_arity : (j : ℕ) → get_or {A = Option ℕ} (None ∷ []) j None ≡ None
 no_arity zero = refl
@@ -66,7 +66,7 @@ no_arity (suc j) = refl
 arity_before : (xs : List (Option ℕ)) (k x : ℕ) → get_or (xs ++ None ∷ []) k None ≡ Some x → get_or xs k None ≡ Some x
 arity_before xs k x q = elim (cases_lt k (length xs)) [
   | inl l ↦ sym (get_or_append_left xs (None ∷ []) None k l) ∙ q
-  | inr g ↦ (let z : get_or (xs ++ None ∷ []) k None ≡ None = get_or-append_right xs (None ∷ []) (length xs) k None refl g ∙ no_arity (k - length xs) in clash (cc))
+  | inr g ↦ (let z : get_or (xs ++ None ∷ []) k None ≡ None = get_or-append_right xs (None ∷ []) (length xs) k None refl g ∙ no_arity (k - length xs) in cc)
 ]
 
 -- an arity that is fixed now is the one that it will have
@@ -75,7 +75,7 @@ arity_after xs f k g x unset q = elim (cases_eq g f) [
   | inr o ↦ inl (sym (get_or-set_other xs f g (Some k) None o) ∙ q)
   | inl e ↦ elim (cases_lt f (length xs)) [
     | inl l ↦ (let z = get_or-set_same xs f (Some k) None l in let y = ap (λ j. get_or (set xs f (Some k)) j None) e in let is : x ≡ k = cc in inr (e, is))
-    | inr past ↦ (let z = ap (λ l. get_or l g None) (set_past xs f (Some k) past) in let y = ap (λ j. get_or xs j None) e in clash (cc))
+    | inr past ↦ (let z = ap (λ l. get_or l g None) (set_past xs f (Some k) past) in let y = ap (λ j. get_or xs j None) e in cc)
   ]
 ]
 
@@ -86,7 +86,7 @@ module _ (w : Vocabulary) (few : length w.symbols ≤ 32) where
       cond-false _ _ _ (lt-leb 32 (length v.symbols) lt) ∙ ap (use_symbol left (with_symbol v n) s b) (sym is) ∙ sym (cond-true _ _ _ (lt-ltb c 32768 (omega arith)))
   new_steps (right ls) v n c a e f lt is s b =
       cond-false _ _ _ (lt-leb 32 (length v.symbols) lt) ∙ ap (use_symbol (right ls) (with_symbol v n) s b) (sym is) ∙ sym (cond-true _ _ _ (lt-ltb c 32768 (omega arith)))
-  new_steps start v n c a e f lt is s b = let z = ap (λ l. found 0 l n) a in clash (cc)
+  new_steps start v n c a e f lt is s b = let z = ap (λ l. found 0 l n) a in cc
 
   numbers : (p : Role) (v : Vocabulary) (n : List ℕ) (c : ℕ) (after : List Word) → Allows p w v → code_of w n ≡ Some c → Ahead w v (named n ∷ after) → Numbers p w v n c after
   numbers p v n c after al e a = by (found 0 v.variables n) (found 0 v.symbols n) refl refl

@@ -2,7 +2,6 @@
 use Rattle.std.proofs.Common.{◌≡◌, ℕ, ◌<◌, ◌≤◌, Bool, true, false, cond, List, [], ◌∷◌, ◌++◌, length, is_some, Some, None, Option, refl, ◌∙◌, ap₂, arith, length-append}
 use Rattle.tokens.specs.Tokens.{Word, Word.lpar, Word.rpar, Word.comma, Word.arrow, Word.named, Word.long, Word.illegal}
 use Rattle.terms.specs.Limits.{most_symbols, most_arguments}
-use Rattle.terms.proofs.Booleans.{clash}
 use Rattle.vocabulary.specs.Vocabularies.{Vocabulary, found, var_or, code_of, arity_of, with_symbol, with_arity, Consistent}
 use Rattle.vocabulary.specs.Growth.{Grows}
 use Rattle.vocabulary.proofs.Growing.{grows_refl, grows_trans, grows_symbol, grows_arity}
@@ -78,7 +77,7 @@ module _ (p : Role) (v : Vocabulary) where
       by : (x y : Option ℕ) → var_or x y ≡ Some c → v.symbols ≡ cond (is_some x) v.symbols (cond (is_some y) v.symbols (v.symbols ++ n ∷ []))
       by (Some i) y q = refl
       by None (Some j) q = refl
-      by None None q = clash (cc)
+      by None None q = cc
 
   pub gains_new : (n : List ℕ) → code_of v n ≡ None → length v.symbols < most_symbols → Allows p v (with_symbol v n) → Gains p v (named n) (with_symbol v n)
   gains_new n e lt a = record {
@@ -91,8 +90,8 @@ module _ (p : Role) (v : Vocabulary) where
   }
     where
       by : (x y : Option ℕ) → var_or x y ≡ None → v.symbols ++ n ∷ [] ≡ cond (is_some x) v.symbols (cond (is_some y) v.symbols (v.symbols ++ n ∷ []))
-      by (Some i) y q = clash (cc)
-      by None (Some j) q = clash (cc)
+      by (Some i) y q = cc
+      by None (Some j) q = cc
       by None None q = refl
 
   pub gains_arity : (x : Word) (v0 : Vocabulary) (f k : ℕ) → Gains p v x v0 → arity_of v0 f ≡ None → k ≤ most_arguments → Gains p v x (with_arity v0 f k)

@@ -1,11 +1,10 @@
 -- What holds of a text goes on to hold.
-use Rattle.std.proofs.Common.{◌≡◌, ℕ, ◌≤◌, Bool, true, false, cond, leb, List, [], length, is_some, refl, subst, arith}
+use Rattle.std.proofs.Common.{◌≡◌, ℕ, ◌≤◌, Bool, true, false, cond, leb, List, length, is_some, refl, subst, arith}
 use Rattle.std.specs.Str.{bytes_eq}
 use Rattle.std.proofs.lemmas.Bool.{leb-false}
 use Rattle.tokens.specs.Tokens.{Word, Word.lpar, Word.rpar, Word.comma, Word.arrow, Word.named, Word.long, Word.illegal}
 use Rattle.terms.specs.Shapes.{starts_with_symbol}
 use Rattle.terms.specs.Models.{Sides}
-use Rattle.terms.proofs.Booleans.{clash}
 use Rattle.vocabulary.specs.declared.flaw.Flaw.{Flaw}
 use Rattle.vocabulary.specs.declared.flaw.Flaw.TheVariants.{Misplaced, TooMany, LeftVariable, DeclaredTwice}
 use Rattle.vocabulary.specs.Vocabularies.{Vocabulary, code_of, with_variable}
@@ -13,12 +12,9 @@ use Rattle.reading.specs.declared.state.Block.{Block}
 use Rattle.reading.specs.declared.state.Block.TheVariants.{Variables, Rules}
 use Rattle.reading.specs.Sides.{Role, Role.left, Role.right, Role.start, limit, State, Reply, Reply.go, Reply.stop, is_open, step, fresh, is_whole}
 use Rattle.reading.specs.Fits.{Fit}
-use Rattle.reading.specs.Documents.{Phase, Phase.bracket, Phase.keyword, Phase.variable, Phase.rule, Phase.arrow_behind, Phase.inside, Phase.closed, Phase.ended, Document, Move.to, Move.flawed, document, word_for, behind_keyword, behind, turned, continued, term_move, move_by, move, rule_text, start_term}
+use Rattle.reading.specs.Documents.{Phase, Phase.bracket, Phase.keyword, Phase.variable, Phase.rule, Phase.arrow_behind, Phase.inside, Phase.closed, Phase.ended, Document, Move.to, Move.flawed, document, word_for, behind_keyword, behind, turned, continued, term_move, move_by, move}
 use Rattle.reading.specs.Holding.{Room, Held, Holds}
 use Rattle.reading.proofs.Sounds.{back}
-
-¬to : {X : Type 0} {d : Document} {f : Flaw} → flawed f ≡ to d → X
-¬to e = clash (cc)
 
 unmoved : (d d1 : Document) → Holds d → to d ≡ to d1 → Holds d1
 unmoved d d1 h e = let is : d ≡ d1 = cc in subst Holds is h
@@ -49,7 +45,7 @@ module _ (rs : List Sides) (p : Role) (d1 : Document) (room : Room rs p) where
     where
       by : (r : Reply) → step p v s w b ≡ r → continued p rs r ≡ to d1 → Holds d1
       by (go v1 s1) q k = let x = back p v v1 s s1 w b l f q in held-turned v1 s1 x.fit x.short k
-      by (stop g) q k = ¬to k
+      by (stop g) q k = cc
 
 module _ (v : Vocabulary) (rs : List Sides) (even : length v.arities ≡ length v.symbols) (d1 : Document) where
   abbrev Keeps : Phase → Word → Bool → Type 0
@@ -61,62 +57,56 @@ module _ (v : Vocabulary) (rs : List Sides) (even : length v.arities ≡ length 
   -- a move that is made only if a test comes out
   tested : (t : Bool) (d : Document) (f : Flaw) → (t ≡ true → Holds d) → cond t (to d) (flawed f) ≡ to d1 → Holds d1
   tested true d f h e = unmoved d d1 (h refl) e
-  tested false d f h e = ¬to e
+  tested false d f h e = cc
 
   held_variable : (n : List ℕ) → Keeps variable (named n) true
   held_variable n e = by (leb 8 (length v.variables)) (is_some (code_of v n)) e
     where
       by : (a b : Bool) → cond a (flawed TooMany) (cond b (flawed DeclaredTwice) (to (document (with_variable v n) rs variable))) ≡ to d1 → Holds d1
-      by true b k = ¬to k
-      by false true k = ¬to k
+      by true b k = cc
+      by false true k = cc
       by false false k = unmoved (document (with_variable v n) rs variable) d1 (record { even = even; held = tt }) k
 
   held-rule : (n : List ℕ) (b : Bool) → Keeps rule (named n) b
   held-rule n b e = by (leb 32 (length rs)) refl e
     where
       by : (t : Bool) → leb 32 (length rs) ≡ t → cond t (flawed TooMany) (term_move v rs left fresh (named n) b) ≡ to d1 → Holds d1
-      by true q k = ¬to k
+      by true q k = cc
       by false q k = held_term rs left d1 (leb-false 32 (length rs) q) v fresh (named n) b (record { even = even; known = tt }) (omega arith) k
 
   keeps : (p : Phase) → Held v rs p → (w : Word) (b : Bool) → Keeps p w b
   keeps (bracket k) h w b e = tested (is_open w) (document v rs (keyword k)) Misplaced (λ t. record { even = even; held = tt }) e
-  keeps (keyword k) h lpar b e = ¬to e
-  keeps (keyword k) h rpar b e = ¬to e
-  keeps (keyword k) h comma b e = ¬to e
-  keeps (keyword k) h arrow b e = ¬to e
+  keeps (keyword k) h lpar b e = cc
+  keeps (keyword k) h rpar b e = cc
+  keeps (keyword k) h comma b e = cc
+  keeps (keyword k) h arrow b e = cc
   keeps (keyword k) h (named n) b e = tested (bytes_eq n (word_for k)) (document v rs (behind_keyword k)) Misplaced (λ t. record { even = even; held = held_keyword v rs k }) e
-  keeps (keyword k) h long b e = ¬to e
-  keeps (keyword k) h illegal b e = ¬to e
-  keeps variable h lpar b e = ¬to e
+  keeps (keyword k) h long b e = cc
+  keeps (keyword k) h illegal b e = cc
+  keeps variable h lpar b e = cc
   keeps variable h rpar b e = plain (bracket Rules) tt e
-  keeps variable h comma b e = ¬to e
-  keeps variable h arrow b e = ¬to e
+  keeps variable h comma b e = cc
+  keeps variable h arrow b e = cc
   keeps variable h (named n) b e = held_variable n e
-  keeps variable h long b e = ¬to e
-  keeps variable h illegal b e = ¬to e
-  keeps rule h lpar b e = ¬to e
+  keeps variable h long b e = cc
+  keeps variable h illegal b e = cc
+  keeps rule h lpar b e = cc
   keeps rule h rpar b e = plain closed tt e
-  keeps rule h comma b e = ¬to e
-  keeps rule h arrow b e = ¬to e
+  keeps rule h comma b e = cc
+  keeps rule h arrow b e = cc
   keeps rule h (named n) b e = held-rule n b e
-  keeps rule h long b e = ¬to e
-  keeps rule h illegal b e = ¬to e
-  keeps (arrow_behind l) h lpar b e = ¬to e
-  keeps (arrow_behind l) h rpar b e = ¬to e
-  keeps (arrow_behind l) h comma b e = ¬to e
+  keeps rule h long b e = cc
+  keeps rule h illegal b e = cc
+  keeps (arrow_behind l) h lpar b e = cc
+  keeps (arrow_behind l) h rpar b e = cc
+  keeps (arrow_behind l) h comma b e = cc
   keeps (arrow_behind l) h arrow b e = tested (starts_with_symbol l) (document v rs (inside (right l) fresh)) LeftVariable (λ t. record { even = even; held = fresh-held v rs (right l) even h.1 }) e
-  keeps (arrow_behind l) h (named n) b e = ¬to e
-  keeps (arrow_behind l) h long b e = ¬to e
-  keeps (arrow_behind l) h illegal b e = ¬to e
+  keeps (arrow_behind l) h (named n) b e = cc
+  keeps (arrow_behind l) h long b e = cc
+  keeps (arrow_behind l) h illegal b e = cc
   keeps (inside p s) h w b e = held_term rs p d1 h.2 v s w b h.0 h.1 e
-  keeps closed h w b e = ¬to e
-  keeps (ended cs) h w b e = ¬to e
+  keeps closed h w b e = cc
+  keeps (ended cs) h w b e = cc
 
 pub held_on : (d d1 : Document) (w : Word) (b : Bool) → Holds d → move d w b ≡ to d1 → Holds d1
 held_on d d1 w b h e = keeps d.names d.rules h.even d1 d.phase h.held w b e
-
-pub text_holds : Holds rule_text
-text_holds = record { even = refl; held = tt }
-
-pub term_holds : (v : Vocabulary) → length v.arities ≡ length v.symbols → Holds (start_term v)
-term_holds v e = record { even = e; held = fresh-held v [] start e tt }

@@ -12,9 +12,4 @@ pub mod Ruling
 pub mod Texts
 pub mod Held
 pub mod Complete
-pub mod Pushes
-pub mod Admitting
 pub mod Naming
-pub mod Bracketing
-pub mod Wholes
-pub mod Closing

@@ -1,12 +1,14 @@
 -- Names where a term begins.
-use Rattle.std.proofs.Common.{◌≡◌, ℕ, Bool, true, false, cond, leb, List, length, Some, None, Ok, Err, Option, Result, sym, refl, ◌∙◌, subst, ap₂, arith}
-use Rattle.std.proofs.lemmas.Bool.{cond-true, lt-ltb, leb-false}
+use Rattle.std.proofs.Common.{◌≡◌, ℕ, ◌<◌, Bool, true, false, cond, ltb, leb, List, length, Some, None, Ok, Err, Option, Result, sym, refl, ◌∙◌, subst, ap₂, arith}
+use Rattle.std.proofs.lemmas.Bool.{cond-true, cond-false, lt-ltb, ltb-true, leb-false}
+use Rattle.terms.specs.declared.code.Code.TheVariants.{Symbol}
+use Rattle.terms.specs.Kinds.{code_kind}
 use Rattle.vocabulary.specs.declared.flaw.Flaw.{Flaw}
 use Rattle.vocabulary.specs.declared.flaw.Flaw.TheVariants.{TooMany}
 use Rattle.vocabulary.specs.Vocabularies.{Vocabulary, code_of, with_symbol}
 use Rattle.vocabulary.specs.Replies.{number_by, number_reply, numbered_by, numbered}
 use Rattle.reading.specs.Sides.{State, Reply.stop, use_symbol, use_new, use_code}
-use Rattle.reading.proofs.Sounds.{new_code}
+use Rattle.reading.proofs.Sounds.{new_code, symbol_of}
 use Rattle.reading.specs.declared.role.Role as kept
 use Rattle.reading.specs.declared.role.Role.TheVariants as roles
 use Rattle.reading.specs.Models.{role_of, numbered_reply, Numbers, Stands}
@@ -42,3 +44,14 @@ module _ (v : Vocabulary) (n : List ℕ) where
 
   pub number_stands : (r : Result ℕ Flaw) (w : Vocabulary) → r ≡ number_reply v n → w ≡ numbered v n → Stands w n r
   number_stands r w e h = subst (λ x. Stands x n r) (sym h) (subst (Stands (numbered v n) n) (sym e) (stands_by (code_of v n) refl))
+
+-- a name whose code is a symbol's is the name of one that there is
+pub symbol_inside : (w : Vocabulary) (n : List ℕ) (c k : ℕ) → code_of w n ≡ Some c → Symbol k ≡ code_kind c → k < length w.symbols
+symbol_inside w n c k e q = by (ltb c 32768) refl
+  where
+    by : (t : Bool) → ltb c 32768 ≡ t → k < length w.symbols
+    by true t =
+        let inside = (symbol_of w n c e (ltb-true c 32768 t)).inside in
+        let same : k ≡ c = cc (q ∙ cond-true _ _ _ t) in
+        omega arith
+    by false t = cc (q ∙ cond-false _ _ _ t)

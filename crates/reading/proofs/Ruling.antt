@@ -6,7 +6,6 @@ use Rattle.terms.specs.Limits.{most_symbols, most_rules}
 use Rattle.terms.specs.Models.{Sides}
 use Rattle.terms.specs.Shapes.{starts_with_symbol}
 use Rattle.terms.specs.Terms.{Term, Term.var, Term.app}
-use Rattle.terms.proofs.Booleans.{clash}
 use Rattle.vocabulary.specs.declared.flaw.Flaw.TheVariants.{Misplaced, TooMany, LeftVariable}
 use Rattle.vocabulary.specs.Vocabularies.{Vocabulary, Consistent}
 use Rattle.vocabulary.proofs.Growing.{grows_trans}
@@ -16,7 +15,7 @@ use Rattle.reading.specs.Flags.{bare_words, flagged}
 use Rattle.reading.specs.Laws.{Spells, Read}
 use Rattle.reading.specs.Documents.{Document, document, Phase.rule, Phase.arrow_behind, Phase.inside, Phase.closed, Move.to, Move.flawed, behind, term_move, move}
 use Rattle.reading.specs.Grammar.{RulesSpelled, RulesSpelled.no_rules, RulesSpelled.one_more}
-use Rattle.reading.proofs.Accepting.{Accepts, never_flawed, arrives, term_first, first_read, term_accepted}
+use Rattle.reading.proofs.Accepting.{Accepts, arrives, term_first, first_read, term_accepted}
 use Rattle.reading.proofs.Completes.{Ahead}
 use Rattle.reading.proofs.Gaining.{Proper, Adds, adds_none, adds_then}
 use Rattle.reading.proofs.Whole.{LeftBehind, whole_sound, whole_complete}
@@ -24,7 +23,7 @@ use Rattle.reading.proofs.Whole.{LeftBehind, whole_sound, whole_complete}
 -- where no word may follow, the text ends
 pub ends_here : (d : Document) → ((w : Word) (b : Bool) → move d w b ≡ flawed Misplaced) → (ws : List Word) (e : Document) → Accepts d ws e → (ws ≡ []) × (d ≡ e)
 ends_here d stops [] e h = (refl, h.1)
-ends_here d stops (w ∷ ws) e (d1, m, h) = never_flawed (sym (stops w (bare_words ws)) ∙ m)
+ends_here d stops (w ∷ ws) e (d1, m, h) = cc (stops w (bare_words ws))
 
 -- an arrow comes first, behind a side that is no variable
 record Arrowed (v : Vocabulary) (rs : List Sides) (l : List ℕ) (ws : List Word) (e : Document) : Type 0 where
@@ -34,18 +33,18 @@ record Arrowed (v : Vocabulary) (rs : List Sides) (l : List ℕ) (ws : List Word
   goes : Accepts (document v rs (inside (right l) fresh)) rest e
 
 arrowed : (v : Vocabulary) (rs : List Sides) (l : List ℕ) (ws : List Word) (e : Document) → Accepts (document v rs (arrow_behind l)) ws e → Arrowed v rs l ws e
-arrowed v rs l [] e h = clash (cc)
-arrowed v rs l (lpar ∷ ws) e (d, m, h) = never_flawed m
-arrowed v rs l (rpar ∷ ws) e (d, m, h) = never_flawed m
-arrowed v rs l (comma ∷ ws) e (d, m, h) = never_flawed m
+arrowed v rs l [] e h = cc
+arrowed v rs l (lpar ∷ ws) e (d, m, h) = cc
+arrowed v rs l (rpar ∷ ws) e (d, m, h) = cc
+arrowed v rs l (comma ∷ ws) e (d, m, h) = cc
 arrowed v rs l (arrow ∷ ws) e (d, m, h) = by (starts_with_symbol l) refl m
   where
     by : (b : Bool) → starts_with_symbol l ≡ b → cond b (to (document v rs (inside (right l) fresh))) (flawed LeftVariable) ≡ to d → Arrowed v rs l (arrow ∷ ws) e
     by true q i = record { rest = ws; split = refl; head = q; goes = arrives ws e i h }
-    by false q i = never_flawed i
-arrowed v rs l (named n ∷ ws) e (d, m, h) = never_flawed m
-arrowed v rs l (long ∷ ws) e (d, m, h) = never_flawed m
-arrowed v rs l (illegal ∷ ws) e (d, m, h) = never_flawed m
+    by false q i = cc
+arrowed v rs l (named n ∷ ws) e (d, m, h) = cc
+arrowed v rs l (long ∷ ws) e (d, m, h) = cc
+arrowed v rs l (illegal ∷ ws) e (d, m, h) = cc
 
 rule_split : (ls rs ws more : List Word) → (ls ++ (arrow ∷ (rs ++ ws))) ++ more ≡ ls ++ (arrow ∷ (rs ++ (ws ++ more)))
 rule_split ls rs ws more = simp append_assoc
@@ -104,9 +103,9 @@ one-rule n e ih v rs ws size proper room h =
     rule_more v a.grown c.grown rs a.front c.front l r e one b.head two kept (ih c.grown (rs ++ s ∷ []) c.after shorter kept few c.goes) a.split b.split c.split
 
 pub rules_read : (n : ℕ) (e : Document) → ReadsRules n e
-rules_read n e v rs [] size proper few h = clash (cc)
+rules_read n e v rs [] size proper few h = cc
 rules_read zero e v rs (w ∷ ws) size proper few h = let z : ⊥ = omega arith in absurd z
-rules_read (suc n) e v rs (lpar ∷ ws) size proper few (d, m, h) = never_flawed m
+rules_read (suc n) e v rs (lpar ∷ ws) size proper few (d, m, h) = cc
 rules_read (suc n) e v rs (rpar ∷ ws) size proper few (d, m, h) =
     let (none, last) = ends_here (document v rs closed) (λ w b. refl) ws e (arrives ws e m h) in
     let is : rs ++ [] ≡ rs = append-nil rs in
@@ -120,15 +119,15 @@ rules_read (suc n) e v rs (rpar ∷ ws) size proper few (d, m, h) =
       spells = no_rules;
       few = subst (λ (l : List Sides). length l ≤ most_rules) (sym is) few;
     }
-rules_read (suc n) e v rs (comma ∷ ws) size proper few (d, m, h) = never_flawed m
-rules_read (suc n) e v rs (arrow ∷ ws) size proper few (d, m, h) = never_flawed m
+rules_read (suc n) e v rs (comma ∷ ws) size proper few (d, m, h) = cc
+rules_read (suc n) e v rs (arrow ∷ ws) size proper few (d, m, h) = cc
 rules_read (suc n) e v rs (named x ∷ ws) size proper few (d, m, h) = by (rules_read n e) (leb most_rules (length rs)) refl m
   where
     by : ReadsRules n e → (b : Bool) → leb most_rules (length rs) ≡ b → cond b (flawed TooMany) (term_move v rs left fresh (named x) (bare_words ws)) ≡ to d → RulesRead v rs (named x ∷ ws) e
-    by ih true q k = never_flawed k
+    by ih true q k = cc
     by ih false q k = one-rule n e ih v rs (named x ∷ ws) size proper (leb-false most_rules (length rs) q) (d, k, h)
-rules_read (suc n) e v rs (long ∷ ws) size proper few (d, m, h) = never_flawed m
-rules_read (suc n) e v rs (illegal ∷ ws) size proper few (d, m, h) = never_flawed m
+rules_read (suc n) e v rs (long ∷ ws) size proper few (d, m, h) = cc
+rules_read (suc n) e v rs (illegal ∷ ws) size proper few (d, m, h) = cc
 
 -- a term begins with a name
 pub record NamedFirst (ws : List Word) : Type 0 where

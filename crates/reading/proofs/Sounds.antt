@@ -4,8 +4,7 @@ use lib.Dec.{eqb_refl}
 use Rattle.std.proofs.lemmas.Bool.{ltb-true, ltb-false, leb-false, eqb-true, cond-true, cond-false, lt-ltb, le-ltb}
 use Rattle.tokens.specs.Tokens.{Word, Word.lpar, Word.rpar, Word.comma, Word.arrow, Word.named, Word.long, Word.illegal}
 use Rattle.terms.specs.Terms.{Term, Terms, Term.var, Term.app, Terms.none, Terms.more, count, codes, codes_all}
-use Rattle.terms.proofs.Booleans.{both, clash}
-use Rattle.vocabulary.specs.declared.flaw.Flaw.{Flaw}
+use Rattle.terms.proofs.Booleans.{both}
 use Rattle.vocabulary.specs.declared.flaw.Flaw.TheVariants.{TooMany, Arguments, AbsentVariable, TooLong}
 use Rattle.reading.specs.declared.state.Use.{Use}
 use Rattle.reading.specs.declared.state.Await.{Await}
@@ -20,9 +19,6 @@ use Rattle.reading.specs.Laws.{Fine}
 use Rattle.reading.specs.Fits.{Known, Fit}
 use Rattle.reading.proofs.Bound.{fine_join, fine_symbol, fine_variable}
 use Rattle.reading.proofs.Gaining.{Allows, allows_same, allows_more, Adds, adds_none, adds_then, Gains, gains_nothing, gains_known, gains_new, gains_arity}
-
-¬go : {X : Type 0} {v : Vocabulary} {s : State} {f : Flaw} → stop f ≡ go v s → X
-¬go e = clash (cc)
 
 known_more : (n m : ℕ) (us : List Use) → n ≤ m → Known n us → Known m us
 known_more n m [] h k = tt
@@ -138,7 +134,7 @@ admits : (p : Role) (v : Vocabulary) (s : State) (b : Bool) (c : ℕ) (v1 : Voca
 admits p v s b c v1 s1 e = by (is_full p s) refl e
   where
     by : (f : Bool) → is_full p s ≡ f → cond f (stop TooLong) (go v (entered s b c)) ≡ go v1 s1 → Admitted p v s b c v1 s1
-    by true q h = ¬go h
+    by true q h = cc
     by false q h = record { same = (cc); after = (cc); room = leb-false (limit p) (length s.codes) q }
 
 pub symbol_of : (w : Vocabulary) (n : List ℕ) (c : ℕ) → code_of w n ≡ Some c → c < 32768 → IsSymbol w n c
@@ -161,7 +157,7 @@ pub new_code : (v : Vocabulary) (n : List ℕ) → code_of v n ≡ None → code
 new_code v n e = go (found 0 v.variables n) refl e
   where
     go : (o : Option ℕ) → found 0 v.variables n ≡ o → var_or o (found 0 v.symbols n) ≡ None → var_or (found 0 v.variables n) (found 0 (v.symbols ++ n ∷ []) n) ≡ Some (length v.symbols)
-    go (Some x) f q = clash (cc)
+    go (Some x) f q = cc
     go None f q = ap (λ o. var_or o (found 0 (v.symbols ++ n ∷ []) n)) f ∙ found_new 0 v.symbols n q ∙ (let z : 0 + length v.symbols ≡ length v.symbols = omega arith in ap Some z)
 
 abbrev term_at : List ℕ → List Use → State
@@ -207,7 +203,7 @@ module _ (p : Role) (c0 : List ℕ) (us : List Use) (n : List ℕ) where
     where
       by : (b : Bool) → eqb 0 a ≡ b → cond b (admitted p v0 (term_at c0 us) true c) (stop Arguments) ≡ go v1 s1 → Back p v (term_at c0 us) (named n) v1 s1
       by true q k = bare_symbol v v0 v1 c s1 g f e lt (z ∙ ap Some (sym (eqb-true 0 a q))) k
-      by false q k = ¬go k
+      by false q k = cc
 
   symbol_back : (v v0 v1 : Vocabulary) (c : ℕ) (b : Bool) (s1 : State) → Gains p v (named n) v0 → Fit v0 us → code_of v0 n ≡ Some c → c < 32768
       → use_symbol p v0 (term_at c0 us) b c ≡ go v1 s1 → Back p v (term_at c0 us) (named n) v1 s1
@@ -237,13 +233,13 @@ module _ (p : Role) (c0 : List ℕ) (us : List Use) (n : List ℕ) where
           })
 
       by : (t : Bool) → is_absent p c ≡ t → cond t (stop AbsentVariable) (admitted p v (term_at c0 us) b c) ≡ go v1 s1 → Back p v (term_at c0 us) (named n) v1 s1
-      by true q k = ¬go k
+      by true q k = cc
       by false q k = entered_so q b (admits p v (term_at c0 us) b c v1 s1 k)
 
   -- a new name
   new_back : (v v1 : Vocabulary) (b : Bool) (s1 : State) → Allows p v (with_symbol v n) → Fit v us → code_of v n ≡ None → (t : Bool) → leb 32 (length v.symbols) ≡ t
       → cond t (stop TooMany) (use_symbol p (with_symbol v n) (term_at c0 us) b (length v.symbols)) ≡ go v1 s1 → Back p v (term_at c0 us) (named n) v1 s1
-  new_back v v1 b s1 al f e true q h = ¬go h
+  new_back v v1 b s1 al f e true q h = cc
   new_back v v1 b s1 al f e false q h =
       let lt = leb-false 32 (length v.symbols) q in
       let l = length-append v.symbols (n ∷ []) in
@@ -253,7 +249,7 @@ module _ (p : Role) (c0 : List ℕ) (us : List Use) (n : List ℕ) where
 new_name : (p : Role) (c0 : List ℕ) (us : List Use) (n : List ℕ) (v v1 : Vocabulary) (b : Bool) (s1 : State) → Fit v us → code_of v n ≡ None → use_new p v (term_at c0 us) b n ≡ go v1 s1 → Back p v (term_at c0 us) (named n) v1 s1
 new_name left c0 us n v v1 b s1 f e h = new_back left c0 us n v v1 b s1 tt f e (leb 32 (length v.symbols)) refl h
 new_name (right ls) c0 us n v v1 b s1 f e h = new_back (right ls) c0 us n v v1 b s1 tt f e (leb 32 (length v.symbols)) refl h
-new_name start c0 us n v v1 b s1 f e h = ¬go h
+new_name start c0 us n v v1 b s1 f e h = cc
 
 code_back : (p : Role) (c0 : List ℕ) (us : List Use) (n : List ℕ) (v v1 : Vocabulary) (b : Bool) (s1 : State) → Fit v us → (o : Option ℕ) → code_of v n ≡ o
     → use_code p v (term_at c0 us) b n o ≡ go v1 s1 → Back p v (term_at c0 us) (named n) v1 s1
@@ -269,7 +265,7 @@ module _ (p : Role) (c0 : List ℕ) (short : length c0 ≤ limit p) where
   at_state us a = record { codes = c0; uses = us; awaits = a }
 
   open_back : (v v1 : Vocabulary) (us : List Use) (s1 : State) → Fit v us → at_open v c0 us ≡ go v1 s1 → Back p v (at_state us Bracket) lpar v1 s1
-  open_back v v1 [] s1 f h = ¬go h
+  open_back v v1 [] s1 f h = cc
   open_back v v1 (u ∷ us) s1 f h =
       let after : at_state (record { symbol = u.symbol; begun = 1 } ∷ us) WantsTerm ≡ s1 = cc in
       let same : v ≡ v1 = cc in
@@ -282,11 +278,11 @@ module _ (p : Role) (c0 : List ℕ) (short : length c0 ≤ limit p) where
       })
 
   comma_back : (v v1 : Vocabulary) (us : List Use) (s1 : State) → Fit v us → at_comma v c0 us ≡ go v1 s1 → Back p v (at_state us After) comma v1 s1
-  comma_back v v1 [] s1 f h = ¬go h
+  comma_back v v1 [] s1 f h = cc
   comma_back v v1 (u ∷ us) s1 f h = by (ltb u.begun 4) refl h
     where
       by : (t : Bool) → ltb u.begun 4 ≡ t → cond t (go v (record { codes = c0; uses = record { symbol = u.symbol; begun = u.begun + 1 } ∷ us; awaits = WantsTerm })) (stop Arguments) ≡ go v1 s1 → Back p v (at_state (u ∷ us) After) comma v1 s1
-      by false q k = ¬go k
+      by false q k = cc
       by true q k =
           let lt = ltb-true u.begun 4 q in
           let after : at_state (record { symbol = u.symbol; begun = u.begun + 1 } ∷ us) WantsTerm ≡ s1 = cc in
@@ -323,35 +319,35 @@ module _ (p : Role) (c0 : List ℕ) (short : length c0 ≤ limit p) where
     where
       by : (t : Bool) → eqb u.begun a ≡ t → cond t (go v (at_state us After)) (stop Arguments) ≡ go v1 s1 → Back p v (at_state (u ∷ us) After) rpar v1 s1
       by true q k = close_settled v v v1 u us s1 (gains_nothing p v rpar refl) (record { even = f.even; known = f.known.2 }) (z ∙ ap Some (sym (eqb-true u.begun a q))) k
-      by false q k = ¬go k
+      by false q k = cc
 
   close_back : (v v1 : Vocabulary) (us : List Use) (s1 : State) → Fit v us → at_close v c0 us ≡ go v1 s1 → Back p v (at_state us After) rpar v1 s1
-  close_back v v1 [] s1 f h = ¬go h
+  close_back v v1 [] s1 f h = cc
   close_back v v1 (u ∷ us) s1 f h = close_by v v1 u us s1 f (arity_of v u.symbol) refl h
 
   back_by : (v v1 : Vocabulary) (us : List Use) (a : Await) (x : Word) (b : Bool) (s1 : State) → Fit v us → step_by p v (at_state us a) b x a ≡ go v1 s1 → Back p v (at_state us a) x v1 s1
-  back_by v v1 us WantsTerm lpar b s1 f h = ¬go h
-  back_by v v1 us WantsTerm rpar b s1 f h = ¬go h
-  back_by v v1 us WantsTerm comma b s1 f h = ¬go h
-  back_by v v1 us WantsTerm arrow b s1 f h = ¬go h
+  back_by v v1 us WantsTerm lpar b s1 f h = cc
+  back_by v v1 us WantsTerm rpar b s1 f h = cc
+  back_by v v1 us WantsTerm comma b s1 f h = cc
+  back_by v v1 us WantsTerm arrow b s1 f h = cc
   back_by v v1 us WantsTerm (named n) b s1 f h = code_back p c0 us n v v1 b s1 f (code_of v n) refl h
-  back_by v v1 us WantsTerm long b s1 f h = ¬go h
-  back_by v v1 us WantsTerm illegal b s1 f h = ¬go h
+  back_by v v1 us WantsTerm long b s1 f h = cc
+  back_by v v1 us WantsTerm illegal b s1 f h = cc
   back_by v v1 us Bracket lpar b s1 f h = open_back v v1 us s1 f h
-  back_by v v1 us Bracket rpar b s1 f h = ¬go h
-  back_by v v1 us Bracket comma b s1 f h = ¬go h
-  back_by v v1 us Bracket arrow b s1 f h = ¬go h
-  back_by v v1 us Bracket (named n) b s1 f h = ¬go h
-  back_by v v1 us Bracket long b s1 f h = ¬go h
-  back_by v v1 us Bracket illegal b s1 f h = ¬go h
-  back_by v v1 us NoBracket x b s1 f h = ¬go h
-  back_by v v1 us After lpar b s1 f h = ¬go h
+  back_by v v1 us Bracket rpar b s1 f h = cc
+  back_by v v1 us Bracket comma b s1 f h = cc
+  back_by v v1 us Bracket arrow b s1 f h = cc
+  back_by v v1 us Bracket (named n) b s1 f h = cc
+  back_by v v1 us Bracket long b s1 f h = cc
+  back_by v v1 us Bracket illegal b s1 f h = cc
+  back_by v v1 us NoBracket x b s1 f h = cc
+  back_by v v1 us After lpar b s1 f h = cc
   back_by v v1 us After rpar b s1 f h = close_back v v1 us s1 f h
   back_by v v1 us After comma b s1 f h = comma_back v v1 us s1 f h
-  back_by v v1 us After arrow b s1 f h = ¬go h
-  back_by v v1 us After (named n) b s1 f h = ¬go h
-  back_by v v1 us After long b s1 f h = ¬go h
-  back_by v v1 us After illegal b s1 f h = ¬go h
+  back_by v v1 us After arrow b s1 f h = cc
+  back_by v v1 us After (named n) b s1 f h = cc
+  back_by v v1 us After long b s1 f h = cc
+  back_by v v1 us After illegal b s1 f h = cc
 
 pub back : (p : Role) (v v1 : Vocabulary) (s s1 : State) (x : Word) (b : Bool) → length s.codes ≤ limit p → Fit v s.uses → step p v s x b ≡ go v1 s1 → Back p v s x v1 s1
 back p v v1 s s1 x b l f h = back_by p s.codes l v v1 s.uses s.awaits x b s1 f h

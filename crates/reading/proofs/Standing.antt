@@ -2,7 +2,6 @@
 use Rattle.std.proofs.Common.{◌≡◌, ℕ, zero, suc, ◌+◌, ◌<◌, ◌≤◌, Bool, true, false, cond, not, ◌&&◌, eqb, leb, ◌⊎◌, List, [], ◌∷◌, ◌++◌, length, get_or, take, sym, refl, ap, ◌∙◌, subst, inl, inr, arith, length-append}
 use lib.Seq.{take-append-le}
 use Rattle.std.proofs.lemmas.Bool.{eqb-true}
-use Rattle.terms.proofs.Booleans.{clash}
 use Rattle.tokens.specs.Bytes.{blank, letter, run as stretch}
 use Rattle.tokens.specs.Tokens.{Word.arrow, Word.named, Word.long, Tok, name_or_long, is_arrow, mark, token, extra, lex, tokens}
 use Rattle.vocabulary.specs.declared.flaw.Flaw.{Flaw}
@@ -31,7 +30,7 @@ run_placed : (end : ℕ) (d : Document) (ts : List Tok) (f : Flaw) (at : ℕ) �
 run_placed end d [] f at h = by (may_end d.phase) h
   where
     by : (b : Bool) → cond b (accepted d) (refused Misplaced end) ≡ refused f at → Begins [] at ⊎ (at ≡ end)
-    by true k = clash (cc)
+    by true k = cc
     by false k = inr (cc)
 run_placed end d (t ∷ ts) f at h = by (λ d1. run_placed end d1 ts f at) (move d t.word (bare_tokens ts)) h
   where

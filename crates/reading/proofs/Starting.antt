@@ -1,8 +1,9 @@
 -- Start terms: read exactly if spelled.
-use Rattle.std.proofs.Common.{◌≡◌, ℕ, suc, ◌+◌, ◌<◌, true, cond, ◌&&◌, T, ltb, List, [], ◌∷◌, ◌++◌, length, get_or, is_some, Some, None, Option, sym, refl, ap, ◌∙◌, subst, ap₂, append_assoc, arith, ltb→lt}
+use Rattle.std.proofs.lemmas.List.{ext_get_or}
+use Rattle.std.proofs.Common.{◌≡◌, ℕ, ◌+◌, true, cond, ◌&&◌, T, ltb, List, [], ◌∷◌, ◌++◌, length, get_or, is_some, Some, None, Option, sym, refl, ap, ◌∙◌, subst, ap₂, append_assoc, arith, ltb→lt}
 use Rattle.tokens.specs.Tokens.{Word, Word.named}
 use Rattle.terms.specs.Terms.{Term, Terms, Term.var, Term.app, Terms.none, Terms.more, count}
-use Rattle.terms.proofs.Booleans.{fst_of, snd_of, clash}
+use Rattle.terms.proofs.Booleans.{fst_of, snd_of}
 use Rattle.vocabulary.specs.Vocabularies.{Vocabulary, found, var_or, code_of, arity_of, is_number, Consistent}
 use Rattle.vocabulary.specs.Growth.{Grows}
 use Rattle.vocabulary.proofs.Growing.{grows_refl, Even}
@@ -22,7 +23,7 @@ known_skip v n c after e = by (found 0 v.variables n) (found 0 v.symbols n) e
     by : (x y : Option ℕ) → var_or x y ≡ Some c → cond (is_some x) (rest v.symbols) (cond (is_some y) (rest v.symbols) (rest (v.symbols ++ n ∷ []))) ≡ rest v.symbols
     by (Some i) y q = refl
     by None (Some j) q = refl
-    by None None q = clash (cc)
+    by None None q = cc
 
 module _ (v : Vocabulary) (names : Consistent v) where
   abbrev AddsNone : List Word → Type 0
@@ -55,16 +56,9 @@ module _ (v : Vocabulary) (names : Consistent v) where
     arities = λ f a e. e;
   }
 
--- lists are the same if they are as long and agree everywhere
-same_entries : (xs ys : List (Option ℕ)) → length xs ≡ length ys → ((i : ℕ) → i < length xs → get_or xs i None ≡ get_or ys i None) → xs ≡ ys
-same_entries [] [] e h = refl
-same_entries [] (y ∷ ys) e h = let z : ⊥ = omega arith in absurd z
-same_entries (x ∷ xs) [] e h = let z : ⊥ = omega arith in absurd z
-same_entries (x ∷ xs) (y ∷ ys) e h = ap₂ ◌∷◌ (h 0 (omega arith)) (same_entries xs ys (omega arith) (λ i l. h (suc i) (omega arith)))
-
 kept-arity : (o q : Option ℕ) → is_some o ≡ true → ((a : ℕ) → o ≡ Some a → q ≡ Some a) → q ≡ o
 kept-arity (Some a) q e h = h a refl
-kept-arity None q e h = clash (cc)
+kept-arity None q e h = cc
 
 abbrev of_parts : List (List ℕ) → List (Option ℕ) → List (List ℕ) → Vocabulary
 of_parts xs os ys = record { symbols = xs; arities = os; variables = ys }
@@ -76,7 +70,7 @@ parts_same v w a b c = ap₂ (λ xs os. of_parts xs os w.variables) a b ∙ ap (
 pub grown_same : (v w : Vocabulary) → Even v → Even w → Settled v → Grows v w → w.symbols ≡ v.symbols → w ≡ v
 grown_same v w even-v even-w settled g e =
     let long : length w.arities ≡ length v.arities = let z = ap length e in omega arith in
-    let same = same_entries w.arities v.arities long (λ i l. kept-arity (arity_of v i) (arity_of w i) (settled i (omega arith)) (g.arities i)) in
+    let same = ext_get_or None w.arities v.arities long (λ i l. kept-arity (arity_of v i) (arity_of w i) (settled i (omega arith)) (g.arities i)) in
     parts_same v w e same g.variables
 
 -- a start term leaves the vocabulary as it is

@@ -3,7 +3,6 @@ use Rattle.std.proofs.Common.{◌≡◌, ℕ, ◌≤◌, List, [], ◌∷◌, �
 use Rattle.tokens.specs.Tokens.{Word, Word.lpar, Word.rpar, Word.named, tokens}
 use Rattle.terms.specs.Limits.{variables}
 use Rattle.terms.specs.Models.{Sides}
-use Rattle.terms.proofs.Booleans.{clash}
 use Rattle.vocabulary.specs.Vocabularies.{Vocabulary, empty, Consistent}
 use Rattle.reading.specs.declared.state.Block.TheVariants.{Variables, Rules}
 use Rattle.reading.specs.Spelling.{numbered}
@@ -64,7 +63,7 @@ text_complete : (ws : List Word) (v : Vocabulary) (ss : List Sides) → TextSpel
 text_complete ws v ss s =
     let vars = v.variables in
     let words = s.rule_words in
-    let ahead : Ahead v (declared vars) (words ++ rpar ∷ []) = record { variables = refl; symbols = s.numbers ∙ numbered-append vars [] words (rpar ∷ []); arities = λ f a e. clash (cc) } in
+    let ahead : Ahead v (declared vars) (words ++ rpar ∷ []) = record { variables = refl; symbols = s.numbers ∙ numbered-append vars [] words (rpar ∷ []); arities = λ f a e. cc } in
     let r = rules_accepted v s.few_symbols s.names s.rules (declared vars) [] ahead s.few_rules in
     let u = r.reached in
     let e = document u ss closed in

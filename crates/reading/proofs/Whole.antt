@@ -2,7 +2,6 @@
 use Rattle.std.proofs.Common.{◌≡◌, ℕ, ◌+◌, ◌<◌, ◌≤◌, true, List, [], ◌∷◌, ◌++◌, map, length, Some, sym, refl, ap, ◌∙◌, subst, append-nil, arith}
 use Rattle.tokens.specs.Tokens.{Word}
 use Rattle.terms.specs.Terms.{codes}
-use Rattle.terms.proofs.Booleans.{clash}
 use Rattle.vocabulary.specs.Vocabularies.{Vocabulary, Consistent}
 use Rattle.vocabulary.specs.Growth.{Grows}
 use Rattle.vocabulary.proofs.Growing.{Even}
@@ -24,11 +23,11 @@ unflagged [] after = refl
 unflagged (x ∷ ws) after = ap (λ l. x ∷ l) (unflagged ws after)
 
 whole_says : (w : Vocabulary) (us : List Use) (a : Await) → whole us a ≡ true → Says w a us [] []
-whole_says w [] WantsTerm e = clash (cc)
-whole_says w [] Bracket e = clash (cc)
-whole_says w [] NoBracket e = clash (cc)
+whole_says w [] WantsTerm e = cc
+whole_says w [] Bracket e = cc
+whole_says w [] NoBracket e = cc
 whole_says w [] After e = (refl, refl)
-whole_says w (u ∷ us) a e = clash (cc)
+whole_says w (u ∷ us) a e = cc
 
 -- what a whole term leaves
 pub record LeftBehind (p : Role) (v : Vocabulary) (ws : List Word) (cs : List ℕ) (v1 : Vocabulary) : Type 0 where

@@ -16,15 +16,11 @@ pub use side::Side;
 pub use state::{Await, Block, Use};
 
 // Over names whose arities are fixed, words are read as a start term exactly if they spell one.
-pub fn spelled_terms_are_read() -> u8
+pub fn spelled_terms_are_read()
     ensures { StartExactly }
-{
-    0
-}
+{}
 
 // Rule texts and start terms are accepted exactly if they are spelled, and their refusals stand.
-pub fn texts_are_read_as_spelled() -> u8
+pub fn texts_are_read_as_spelled()
     ensures { TextsRead }
-{
-    0
-}
+{}

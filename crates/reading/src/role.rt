@@ -6,7 +6,7 @@ ghost use Rattle.reading.specs.Models.{role_of};
 use bounded::ArrayVec;
 use terms::has_code;
 
-#[derive(Clone, Copy)]
+#[derive(Clone, Copy, PartialEq, Eq)]
 pub enum Role {
     Left,
     // With the codes of the left side.
@@ -20,8 +20,7 @@ impl Role {
         ensures { result ≡ limit (role_of self.now) }
     {
         match self {
-            Role::Left => 32,
-            Role::Right(_) => 32,
+            Role::Left | Role::Right(_) => 32,
             Role::Start => 1024,
         }
     }
@@ -31,9 +30,8 @@ impl Role {
         ensures { result ≡ is_absent (role_of self.now) code }
     {
         match self {
-            Role::Left => false,
+            Role::Left | Role::Start => false,
             Role::Right(left) => !has_code(left.as_slice(), code),
-            Role::Start => false,
         }
     }
 }

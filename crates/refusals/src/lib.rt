@@ -33,6 +33,14 @@ impl Layer {
     }
 }
 
+impl fmt::Display for Layer {
+    ghost output = { λ layer. Some (layer_name layer) };
+
+    fn fmt<W: fmt::Write>(&self, f: &mut fmt::Formatter<W>) -> fmt::Result {
+        f.write_str(self.name())
+    }
+}
+
 // The place is a byte offset, a rule number or 0, as the number says.
 #[derive(Clone, Copy, PartialEq, Eq, Debug)]
 pub struct Refusal {
@@ -45,19 +53,19 @@ impl fmt::Display for Refusal {
     ghost output = { λ r. Some (line r) };
 
     fn fmt<W: fmt::Write>(&self, f: &mut fmt::Formatter<W>) -> fmt::Result {
-        let number = self.number;
-        let layer = self.layer.name();
-        let place = self.place;
+        let Refusal {
+            number,
+            layer,
+            place,
+        } = self;
         write!(f, "refused {number} {layer} {place}")
     }
 }
 
 // A printed line tells which refusal it stands for.
-pub fn lines_tell() -> u8
+pub fn lines_tell()
     ensures { LinesTell }
-{
-    0
-}
+{}
 
 #[cfg(test)]
 mod tests {

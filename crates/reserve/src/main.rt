@@ -1,12 +1,10 @@
 // Follows a trip to its normal form and prints a record of it: rules and symbols, each step, the final codes.
 #![tactic(auto)]
 
-mod follow;
-
-use follow::{End, Trip, follow};
 use rewriting::Subject;
 use std::io;
 use terms::{Malformed, Rule, Signature, System};
+use trips::{End, Trip, follow_with};
 
 // Addition: add(z, b) -> b and add(s(a), b) -> s(add(a, b)), with add, z and s numbered 0, 1 and 2.
 fn addition() -> Result<System, Malformed> {
@@ -33,7 +31,10 @@ fn run(rt: &HostRuntime, mut subject: Subject) -> io::Result<()> {
     let rules = subject.system().rules().len();
     let symbols = subject.system().signature().arities().len();
     println!(rt; "rules {rules} symbols {symbols}")?;
-    let Trip { end, steps } = follow(rt, &mut subject)?;
+    let Trip { end, steps } = follow_with(
+        &mut subject,
+        |place, rule| println!(rt; "step rule {rule} place {place}"),
+    )?;
     println!(rt; "steps {steps}")?;
     match end {
         End::Normal => {}
@@ -46,9 +47,6 @@ fn run(rt: &HostRuntime, mut subject: Subject) -> io::Result<()> {
 fn main(rt: HostRuntime) -> io::Result<()> {
     match trip() {
         Ok(subject) => run(&rt, subject),
-        Err(fault) => {
-            let refusal = fault.refusal();
-            println!(rt; "{refusal}")
-        }
+        Err(fault) => println!(rt; "{fault}"),
     }
 }

@@ -1,10 +1,9 @@
 pub mod Images
 pub mod Meets
 pub mod Solutions
-pub mod Writing
-pub mod Stepwise
-pub mod Looks
-pub mod Systems
 pub mod Replying
+pub mod Stepwise
 pub mod Telling
+pub mod Systems
+pub mod Looks
 pub mod Subjects

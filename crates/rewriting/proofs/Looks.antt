@@ -1,101 +1,50 @@
 -- The search finds the first redex, or there is none.
-use Rattle.std.proofs.Common.{◌≡◌, ℕ, zero, suc, ◌+◌, ◌<◌, ◌≤◌, Bool, true, false, cond, T, List, [], ◌∷◌, length, drop, Some, None, Option, sym, refl, ap, ◌∙◌, subst, arith}
-use Rattle.std.proofs.lemmas.List.{at_drop_more, drop_more}
-use Rattle.terms.specs.declared.rule.Rule as kept
+use Rattle.std.proofs.Common.{◌≡◌, ℕ, zero, suc, ◌+◌, ◌<◌, ◌≤◌, Bool, false, not, T, List, [], ◌∷◌, length, Some, None, Option, MatchOption, IsTrue, sym, refl, ap, ◌∙◌, subst, arith}
+use denote.Param.Members.{Mut, Called}
+use Rattle.std.proofs.iter.Yields.{nat_range_steps}
+use Rattle.std.specs.Option.{option_map, IfSome, IsSomeAnd}
+use Rattle.std.specs.Iterator.Runs.{SomeRun, AllItemsGive, IsFirstToGive}
+use Rattle.std.specs.List.{position}
+use Rattle.std.proofs.iter.runs.Sources.{range_runs}
+use Rattle.std.proofs.lemmas.Bool.Decides.{nat_tests}
+use Rattle.std.proofs.lemmas.List.Quantifiers.{position-Some}
+use Rattle.std.proofs.lemmas.List.Sums.{prefix_len_passes}
 use Rattle.terms.specs.Terms.{Term}
 use Rattle.terms.specs.Rules.{Rule, Numbered, rules_over}
-use Rattle.terms.specs.Steps.{Step, Normal, First, FirstRedex}
-use Rattle.terms.specs.Codes.{is_term, stack, top, term_of, sub_at}
-use Rattle.terms.specs.Models.{sides_of, all_sides}
-use Rattle.terms.specs.Systems.{rules_from}
-use Rattle.terms.proofs.Booleans.{held, clash, never}
+use Rattle.terms.specs.Steps.{Step, First, FirstRedex}
+use Rattle.terms.specs.Codes.{is_term, term_of, sub_at}
+use Rattle.terms.proofs.Booleans.{held, never}
 use Rattle.rewriting.specs.Matching.{matches}
 use Rattle.rewriting.specs.Filling.{next_codes}
-use Rattle.rewriting.specs.Searching.{rule_from, found, first_from, first_redex}
-use Rattle.rewriting.proofs.Stepwise.{step_sound, step-matches, step_inside, size_of}
+use Rattle.rewriting.specs.Replies.{rule_at}
+use Rattle.rewriting.specs.Searching.{lowest_rule, found, first_from, first_redex}
+use Rattle.rewriting.proofs.Stepwise.{listed_at, numbered_below, rule_listed, step_sound, step-matches, step_inside, size_of}
 
-rule_none : (n : ℕ) (rules : List Rule) (t : Term) → rule_from n rules t ≡ None → (m : ℕ) (r : Rule) → Numbered rules m r → matches r.left t ≡ false
-rule_none n [] t e m r listed = absurd listed
-rule_none n (x ∷ rules) t e m r listed = go (λ f k l. rule_none (n + 1) rules t f k r l) (matches x.left t) refl e m listed
-  where
-    go : (rule_from (n + 1) rules t ≡ None → (k : ℕ) → Numbered rules k r → matches r.left t ≡ false) → (b : Bool) → matches x.left t ≡ b → cond b (Some n) (rule_from (n + 1) rules t) ≡ None → (m : ℕ) → Numbered (x ∷ rules) m r → matches r.left t ≡ false
-    go rec true q f m l = clash (cc)
-    go rec false q f zero l = ap (λ y. matches y.left t) (sym l) ∙ q
-    go rec false q f (suc m) l = rec f m l
-
-pub record Lowest (n : ℕ) (rules : List Rule) (t : Term) (k : ℕ) : Type 0 where
-  pub number : ℕ
-  pub rule : Rule
-  pub is : k ≡ n + number
-  pub listed : Numbered rules number rule
-  pub here : T (matches rule.left t)
-  pub below : (j : ℕ) (r : Rule) → j < number → Numbered rules j r → matches r.left t ≡ false
-
-pub rule_some : (n : ℕ) (rules : List Rule) (t : Term) (k : ℕ) → rule_from n rules t ≡ Some k → Lowest n rules t k
-rule_some n [] t k e = clash (cc)
-rule_some n (x ∷ rules) t k e = go (λ f. rule_some (n + 1) rules t k f) (matches x.left t) refl e
-  where
-    below_next : (m : ℕ) → matches x.left t ≡ false → ((j : ℕ) (r : Rule) → j < m → Numbered rules j r → matches r.left t ≡ false) → (j : ℕ) (r : Rule) → j < suc m → Numbered (x ∷ rules) j r → matches r.left t ≡ false
-    below_next m q f zero r lt l = ap (λ y. matches y.left t) (sym l) ∙ q
-    below_next m q f (suc j) r lt l = f j r (omega arith) l
-
-    go : (rule_from (n + 1) rules t ≡ Some k → Lowest (n + 1) rules t k) → (b : Bool) → matches x.left t ≡ b → cond b (Some n) (rule_from (n + 1) rules t) ≡ Some k → Lowest n (x ∷ rules) t k
-    go rec true q f = record {
-      number = 0;
-      rule = x;
-      is = (let z : n ≡ k = cc in omega arith);
-      listed = refl;
-      here = held _ q;
-      below = λ j r lt l. (let z : ⊥ = omega arith in absurd z);
-    }
-    go rec false q f =
-        let s = rec f in
-        let i = s.is in
-        record {
-          number = suc s.number;
-          rule = s.rule;
-          is = omega arith;
-          listed = s.listed;
-          here = s.here;
-          below = below_next s.number q s.below;
-        }
+none_passes : (test : Rule → Bool) (rules : List Rule) → position test rules ≡ None → (n : ℕ) → n < length rules → test (rule_at rules n) ≡ false
+none_passes test rules e n h = let p = prefix_len_passes (λ x. not (test x)) rules n (rule_at [] 0) in grind (arith, nat_tests, p)
 
 module _ (sig : List ℕ) (rules : List Rule) where
-  first_none : (i : ℕ) (cs : List ℕ) → first_from sig rules i cs ≡ None → (q : ℕ) → q < length cs → rule_from 0 rules (sub_at sig cs q) ≡ None
-  first_none i [] e q h = let z : ⊥ = omega arith in absurd z
-  first_none i (c ∷ cs) e q h = go (λ f k l. first_none (i + 1) cs f k l) (rule_from 0 rules (top (stack sig (c ∷ cs)))) refl e q h
-    where
-      go : (first_from sig rules (i + 1) cs ≡ None → (k : ℕ) → k < length cs → rule_from 0 rules (sub_at sig cs k) ≡ None) → (o : Option ℕ) → rule_from 0 rules (top (stack sig (c ∷ cs))) ≡ o → found i o (first_from sig rules (i + 1) cs) ≡ None → (q : ℕ) → q < length (c ∷ cs) → rule_from 0 rules (sub_at sig (c ∷ cs) q) ≡ None
-      go rec (Some n) x f q h = clash (cc)
-      go rec None x f zero h = x
-      go rec None x f (suc q) h = rec f q (omega arith)
+  -- what a search over all places comes to
+  abbrev pub Sought : List ℕ → Option (ℕ × ℕ) → Type 0
+  Sought cs None = (q : ℕ) → q < length cs → lowest_rule rules (sub_at sig cs q) ≡ None
+  Sought cs (Some m) = (m.0 < length cs) × (lowest_rule rules (sub_at sig cs m.0) ≡ Some m.1) × ((q : ℕ) → q < m.0 → lowest_rule rules (sub_at sig cs q) ≡ None)
 
-  pub record LowestPlace (i : ℕ) (cs : List ℕ) (p k : ℕ) : Type 0 where
-    pub at : ℕ
-    pub is : p ≡ i + at
-    pub inside : at < length cs
-    pub here : rule_from 0 rules (sub_at sig cs at) ≡ Some k
-    pub below : (j : ℕ) → j < at → rule_from 0 rules (sub_at sig cs j) ≡ None
+  none_from : (i : ℕ) (cs : List ℕ) → ((q : ℕ) → q < length cs → lowest_rule rules (sub_at sig cs q) ≡ None) → None ≡ first_from sig rules i cs
+  none_from i [] h = refl
+  none_from i (c ∷ cs) h = none_from (i + 1) cs (λ q l. h (suc q) (omega arith)) ∙ sym (ap (λ o. found i o (first_from sig rules (i + 1) cs)) (h 0 (omega arith)))
 
-  pub first_some : (i : ℕ) (cs : List ℕ) (p k : ℕ) → first_from sig rules i cs ≡ Some (p, k) → LowestPlace i cs p k
-  first_some i [] p k e = clash (cc)
-  first_some i (c ∷ cs) p k e = go (λ f. first_some (i + 1) cs p k f) (rule_from 0 rules (top (stack sig (c ∷ cs)))) refl e
-    where
-      next_below : (m : ℕ) → rule_from 0 rules (top (stack sig (c ∷ cs))) ≡ None → ((j : ℕ) → j < m → rule_from 0 rules (sub_at sig cs j) ≡ None) → (j : ℕ) → j < suc m → rule_from 0 rules (sub_at sig (c ∷ cs) j) ≡ None
-      next_below m x f zero h = x
-      next_below m x f (suc j) h = f j (omega arith)
+  some_from : (i q n k : ℕ) (cs : List ℕ) → k ≡ i + q → q < length cs → lowest_rule rules (sub_at sig cs q) ≡ Some n → ((j : ℕ) → j < q → lowest_rule rules (sub_at sig cs j) ≡ None) → Some (k, n) ≡ first_from sig rules i cs
+  some_from i q n k [] e h here below = absurd (omega arith)
+  some_from i zero n k (c ∷ cs) e h here below =
+      let p : k ≡ i = omega arith in
+      ap (λ j. Some (j, n)) p ∙ sym (ap (λ o. found i o (first_from sig rules (i + 1) cs)) here)
+  some_from i (suc q) n k (c ∷ cs) e h here below =
+      some_from (i + 1) q n k cs (omega arith) (omega arith) here (λ j l. below (suc j) (omega arith))
+      ∙ sym (ap (λ o. found i o (first_from sig rules (i + 1) cs)) (below 0 (omega arith)))
 
-      go : (first_from sig rules (i + 1) cs ≡ Some (p, k) → LowestPlace (i + 1) cs p k) → (o : Option ℕ) → rule_from 0 rules (top (stack sig (c ∷ cs))) ≡ o → found i o (first_from sig rules (i + 1) cs) ≡ Some (p, k) → LowestPlace i (c ∷ cs) p k
-      go rec (Some n) x f =
-          let both : ◌≡◌ {A = ℕ × ℕ} (i, n) (p, k) = cc in
-          let a : i ≡ p = ap (λ q. q.0) both in
-          let b : n ≡ k = ap (λ q. q.1) both in
-          record { at = 0; is = omega arith; inside = omega arith; here = x ∙ ap Some b; below = λ j h. (let z : ⊥ = omega arith in absurd z) }
-      go rec None x f =
-          let s = rec f in
-          let e1 = s.is in
-          let e2 = s.inside in
-          record { at = suc s.at; is = omega arith; inside = omega arith; here = s.here; below = next_below s.at x s.below }
+  pub sought_value : (cs : List ℕ) (o : Option (ℕ × ℕ)) → Sought cs o → o ≡ first_redex sig rules cs
+  sought_value cs None s = none_from 0 cs s
+  sought_value cs (Some m) s = some_from 0 m.0 m.1 m.0 cs (omega arith) s.0 s.1 s.2
 
 module _ (sig : List ℕ) (few : length sig ≤ 32) (rules : List Rule) (fine : T (rules_over sig rules)) (cs : List ℕ) (ok : T (is_term sig cs)) where
   -- no match at a place, no step there
@@ -104,42 +53,80 @@ module _ (sig : List ℕ) (few : length sig ≤ 32) (rules : List Rule) (fine : 
       let h : p < length cs = let a = step_inside rules n p (term_of sig cs) u s in let b = size_of sig few cs ok p in omega arith in
       never _ (step-matches sig few cs ok p rules fine h n s.rule s.listed u s) (none' s.rule s.listed)
 
-  normal : first_redex sig rules cs ≡ None → Normal rules (term_of sig cs)
-  normal e n p u s =
-      let h : p < length cs = let a = step_inside rules n p (term_of sig cs) u s in let b = size_of sig few cs ok p in omega arith in
-      stuck p n u (λ r l. rule_none 0 rules (sub_at sig cs p) (first_none sig rules 0 cs e p h) n r l) s
+  none_at : (p n : ℕ) (u : Term) → lowest_rule rules (sub_at sig cs p) ≡ None → Step rules n p (term_of sig cs) u → ⊥
+  none_at p n u e =
+      let test : Rule → Bool = λ r. matches r.left (sub_at sig cs p) in
+      stuck p n u (λ r l. ap test (rule_listed rules n r l) ∙ none_passes test rules e n (numbered_below rules n r l))
 
-  first : (p k : ℕ) → first_redex sig rules cs ≡ Some (p, k) → First rules (term_of sig cs) p k
-  first p k e =
-      let a = first_some sig rules 0 cs p k e in
-      let same_place : a.at ≡ p = let z = a.is in omega arith in
-      let h : p < length cs = let z = a.inside in omega arith in
-      let l = rule_some 0 rules (sub_at sig cs a.at) k a.here in
-      let same-rule : l.number ≡ k = let z = l.is in omega arith in
-      let listed : Numbered rules k l.rule = subst (λ n. Numbered rules n l.rule) same-rule l.listed in
+  first : (p k : ℕ) → p < length cs → lowest_rule rules (sub_at sig cs p) ≡ Some k → ((q : ℕ) → q < p → lowest_rule rules (sub_at sig cs q) ≡ None) → First rules (term_of sig cs) p k
+  first p k h here below =
+      let test : Rule → Bool = λ r. matches r.left (sub_at sig cs p) in
+      let a = position-Some test rules k (rule_at [] 0) here in
+      let listed = listed_at rules k a.0 in
       record {
-        next = term_of sig (next_codes sig cs p l.rule);
-        step = step_sound sig few cs ok p rules fine h k l.rule listed (subst (λ x. T (matches l.rule.left (sub_at sig cs x))) same_place l.here);
-        no_place_below = λ q n u lt s. (
-            let b : q < a.at = omega arith in
-            stuck q n u (λ r m. rule_none 0 rules (sub_at sig cs q) (a.below q b) n r m) s);
-        no_rule_below = λ n u lt s. (
-            let b : n < l.number = omega arith in
-            stuck p n u (λ r m. ap (λ x. matches r.left (sub_at sig cs x)) (sym same_place) ∙ l.below n r b m) s);
+        next = term_of sig (next_codes sig cs p (rule_at rules k));
+        step = step_sound sig few cs ok p rules fine h k (rule_at rules k) listed (held _ a.1);
+        no_place_below = λ q n u lt s. none_at q n u (below q lt) s;
+        no_rule_below = λ n u lt s. stuck p n u (λ r m. ap test (rule_listed rules n r m) ∙ a.2 n lt) s;
       }
 
-  pub looks : (o : Option (ℕ × ℕ)) → o ≡ first_redex sig rules cs → FirstRedex rules (term_of sig cs) o
-  looks None e = normal (sym e)
-  looks (Some m) e = first m.0 m.1 (sym e)
+  pub sought_means : (o : Option (ℕ × ℕ)) → Sought sig rules cs o → FirstRedex rules (term_of sig cs) o
+  sought_means None h = λ n p u s.
+      none_at p n u (h p (let a = step_inside rules n p (term_of sig cs) u s in let b = size_of sig few cs ok p in omega arith)) s
+  sought_means (Some m) h = first m.0 m.1 h.0 h.1 h.2
 
--- the loops of the search
-module _ (sig : List ℕ) (t : Term) where
-  pub rule_next : (n : ℕ) (x : kept.Rule) (xs : List kept.Rule) (b : Bool) → matches (term_of sig (sides_of x).left) t ≡ b
-      → rule_from n (rules_from sig (all_sides (x ∷ xs))) t ≡ cond b (Some n) (rule_from (n + 1) (rules_from sig (all_sides xs)) t)
-  rule_next n x xs b e = ap (λ y. cond y (Some n) (rule_from (n + 1) (rules_from sig (all_sides xs)) t)) e
+-- the search as calls at each place, which stop at the first answer
+at_item : (P : ℕ → Type 0) (o : Option ℕ) (k : ℕ) → option_map (λ y. y) o ≡ Some k → IfSome o P → P k
+at_item P None k e h = cc
+at_item P (Some x) k e h = let same : x ≡ k = cc in subst P same h
 
-pub first_next : (sig : List ℕ) (rules : List Rule) (cs : List ℕ) (i : ℕ) → i < length cs
-    → first_from sig rules i (drop i cs) ≡ found i (rule_from 0 rules (sub_at sig cs i)) (first_from sig rules (i + 1) (drop (i + 1) cs))
-first_next sig rules cs i h =
-    at_drop_more (first_from sig rules i) cs i 0 h
-    ∙ ap (λ l. found i (rule_from 0 rules (top (stack sig l))) (first_from sig rules (i + 1) (drop (i + 1) cs))) (sym (drop_more cs i 0 h))
+at_found : (P : ℕ → Type 0) (o : Option ℕ) (k : ℕ) → option_map (λ y. y) o ≡ Some k → IsSomeAnd o P → P k
+at_found P None k e h = absurd h
+at_found P (Some x) k e h = let same : x ≡ k = cc in subst P same h
+
+placed : ℕ → Option ℕ → Option (ℕ × ℕ)
+placed k o = option_map (λ n. (k, n)) o
+
+no_redex : (k : ℕ) (o : Option ℕ) → None ≡ placed k o → o ≡ None
+unfolding placed
+no_redex k None e = refl
+no_redex k (Some n) e = cc
+
+redex : (k : ℕ) (o : Option ℕ) (m : ℕ × ℕ) → Some m ≡ placed k o → (m.0 ≡ k) × (o ≡ Some m.1)
+unfolding placed
+redex k None m e = cc
+redex k (Some n) m e = let same : ◌≡◌ {A = ℕ × ℕ} m (k, n) = cc in (ap (λ p. p.0) same, sym (ap (λ p. Some p.1) same))
+
+module _ {F : Type 0} (g : Mut F (ℕ × Unit {0}) (Option (ℕ × ℕ))) (f : F) (sig : List ℕ) (rules : List Rule) (cs : List ℕ) where
+  abbrev At : ℕ → Option ℕ
+  At k = lowest_rule rules (sub_at sig cs k)
+
+  module _ (called : (k : ℕ) (o : Option (ℕ × ℕ)) (q : F) → Called g f (k, tt) o q → (q ≡ f) × (o ≡ option_map {U = ℕ × ℕ} (λ n. (k, n)) (At k))) where
+    misses : (k : ℕ) → Called g f (k, tt) None f → At k ≡ None
+    unfolding placed
+    misses k c = no_redex k (At k) (called k None f c).1
+
+    pub sought : (n : ℕ) → n ≡ length cs → (r : Option (ℕ × ℕ)) → SomeRun nat_range_steps (record { start = 0; end = n }) (λ p. MatchOption r (IsTrue p.whole × AllItemsGive p g f None) (λ y. (i : ℕ) × (i < p.len) × (p.len ≡ i + 1) × IsFirstToGive p g f (Some y) None i))
+        → Sought sig rules cs r
+    unfolding placed
+    sought n to None run = λ k h.
+        let p = run.0 in
+        let items = range_runs p p.seen in
+        let from = ap (λ s. s.start) run.1 in
+        let end = ap (λ s. s.end) run.1 in
+        let e : p.from.start + k ≡ k = omega arith in
+        misses k (at_item (λ x. Called g f (x, tt) None f) (p.at k) k (items.3 k (omega (arith, items.1 run.2.0)) ∙ ap Some e) (run.2.1 (λ a o q c. (called a.0 o q c).0) k))
+    sought n to (Some m) run =
+        let p = run.0 in
+        let items = range_runs p p.seen in
+        let from = ap (λ s. s.start) run.1 in
+        let end = ap (λ s. s.end) run.1 in
+        let i = run.2.0 in
+        let within = run.2.1 in
+        let first = run.2.3 (λ a o q c. (called a.0 o q c).0) in
+        let at : (k : ℕ) → k < p.len → option_map (λ y. y) (p.at k) ≡ Some k = λ k h. (let e : p.from.start + k ≡ k = omega arith in items.3 k h ∙ ap Some e) in
+        let hit = redex i (At i) m (called i (Some m) f (at_found (λ x. Called g f (x, tt) (Some m) f) (p.at i) i (at i within) first.0)).1 in (
+          let a = items.0 in let b = hit.0 in omega arith,
+          ap At hit.0 ∙ hit.1,
+          λ q h. (let b = hit.0 in misses q (at_found (λ x. Called g f (x, tt) None f) (p.at q) q (at q (omega arith)) (first.1 q (omega arith)))),
+        )

@@ -1,19 +1,22 @@
 -- A left side against a subject, code by code: the substitutions that solve it stay the same.
-use Rattle.std.proofs.Common.{◌≡◌, ℕ, zero, suc, ◌+◌, ◌-◌, ◌<◌, ◌≤◌, Bool, true, false, T, List, length, get_or, set, replicate, Some, None, Option, sym, refl, ap, ◌∙◌, subst, ap₂, inl, inr, arith, length-set}
-use Rattle.std.specs.List.{between}
-use Rattle.std.proofs.lemmas.Bool.{cases_lt, cases_eq, both_ways}
-use Rattle.std.proofs.lemmas.List.{get_or-set_same, get_or-set_other, at_drop_all}
-use Rattle.rewriting.specs.declared.bindings.Range.{Range}
+use Rattle.std.proofs.Common.{◌≡◌, ℕ, ◌+◌, ◌-◌, ◌<◌, ◌≤◌, T, List, ◌∷◌, cond, length, get_or, take, drop, ◌≢◌, Some, None, Option, MatchOption, sym, refl, ap, ◌∙◌, subst, ap₂, inl, inr, arith, length-drop}
+use Rattle.std.proofs.lemmas.Bool.{cases_lt, cases_eq, lt-ltb, le-ltb, le-leb}
+use Rattle.std.proofs.lemmas.List.{at_drop_all, drop_more, drop-drop, take_at}
+use Rattle.rewriting.specs.declared.place.Place.{Place}
+use Rattle.terms.specs.declared.code.Code.TheVariants.{Symbol, Variable}
+use Rattle.terms.specs.Kinds.{code_kind}
 use Rattle.terms.specs.Terms.{Term, Terms, Term.var, Term.app, Terms.none, Terms.more, count, codes, size, under, under_all}
 use Rattle.terms.specs.Contexts.{joined}
-use Rattle.terms.specs.Codes.{is_term, stack, term_of}
-use Rattle.terms.specs.Codes.{rest_at, sub_at}
-use Rattle.rewriting.specs.Bindings.{Meeting, Inside, Took, Means, Agrees, Spans, AllSpan, Solved}
+use Rattle.terms.specs.Codes.{is_term, span, stack, term_of, rest_at, sub_at}
 use Rattle.terms.specs.Replies.{span_reply}
-use Rattle.terms.proofs.Readings.{reads}
-use Rattle.terms.proofs.Spans.{span_is}
-use Rattle.terms.proofs.Views.{symbol_at, variable_at, none_past, some_at, counted, sub_fits, count-joined_all, low_at}
-use Rattle.terms.proofs.Subterms.{part_at, first_of, lone_of, same_codes}
+use Rattle.terms.proofs.Places.{length_codes}
+use Rattle.terms.proofs.Readings.{reads, term_of_codes}
+use Rattle.terms.proofs.Scans.{few_symbols}
+use Rattle.terms.proofs.Spans.{span-at}
+use Rattle.terms.proofs.Views.{short, symbol_at, variable_at, none_past, some_at, counted, count-joined_all, low_at}
+use Rattle.terms.proofs.Subterms.{part_at, first_of, lone_of}
+use Rattle.rewriting.specs.Bindings.{Bound, Means, Agrees, IsPart, AreParts, Solved}
+use Rattle.rewriting.specs.Places.{arities_at}
 
 abbrev pub Meets : (ℕ → Term) → Terms → Terms → Type 0
 Meets σ none ts = Unit {0}
@@ -26,74 +29,116 @@ module _ (σ : ℕ → Term) where
 
   meets_split : (us vs ls ts : Terms) → count us ≡ count vs → Meets σ (joined us ls) (joined vs ts) → (under_all σ us ≡ vs) × Meets σ ls ts
   meets_split none none ls ts e m = (refl, m)
-  meets_split none (more v vs) ls ts e m = let z : ⊥ = omega arith in absurd z
-  meets_split (more u us) none ls ts e m = let z : ⊥ = omega arith in absurd z
+  meets_split none (more v vs) ls ts e m = absurd (omega arith)
+  meets_split (more u us) none ls ts e m = absurd (omega arith)
   meets_split (more u us) (more v vs) ls ts e m = let r = meets_split us vs ls ts (omega arith) m.1 in (ap₂ more m.0 r.0, r.1)
 
   meets_join : (us ls ts : Terms) → Meets σ ls ts → Meets σ (joined us ls) (joined (under_all σ us) ts)
   meets_join none ls ts m = m
   meets_join (more u us) ls ts m = (refl, meets_join us ls ts m)
 
-pub record Going (sig left cs : List ℕ) (at i place : ℕ) (bs : List (Option Range)) : Type 0 where
-  pub eight : length bs ≡ 8
+symbol_code : (c s : ℕ) → Symbol s ≡ code_kind c → c < 32768
+symbol_code c s e = elim (cases_lt c 32768) [
+  | inl lt ↦ lt
+  | inr le ↦ (let k = e ∙ ap (λ b. cond b (Symbol c) (Variable (c - 32768))) (le-ltb c 32768 le) in cc)
+]
+
+variable_code : (c v : ℕ) → Variable v ≡ code_kind c → (32768 ≤ c) × (v ≡ c - 32768)
+variable_code c v e = elim (cases_lt c 32768) [
+  | inl lt ↦ (let k = e ∙ ap (λ b. cond b (Symbol c) (Variable (c - 32768))) (lt-ltb c 32768 lt) in cc)
+  | inr le ↦ (le, let k = e ∙ ap (λ b. cond b (Symbol c) (Variable (c - 32768))) (le-ltb c 32768 le) in cc)
+]
+
+-- what is agreed with after a variable is bound
+module _ (sig : List ℕ) {before after : ℕ → Option (List ℕ)} {v : ℕ} {part : List ℕ} (b : Bound before v part after) where
+  agrees_after : (σ : ℕ → Term) → Agrees sig σ before → σ v ≡ term_of sig part → Agrees sig σ after
+  agrees_after σ a x u = elim (cases_eq u v) [
+    | inl same ↦ subst (λ w. Means sig (σ w) (after w)) (sym same) (subst (Means sig (σ v)) (sym b.here) x)
+    | inr other ↦ subst (Means sig (σ u)) (sym (b.others u other)) (a u)
+  ]
+
+  was_meant : (t : Term) → t ≡ term_of sig part → (o : Option (List ℕ)) → MatchOption o (Unit {0}) (λ old. old ≡ part) → Means sig t o
+  was_meant t x None h = tt
+  was_meant t x (Some old) h = x ∙ ap (term_of sig) (sym h)
+
+  agreed_before : (σ : ℕ → Term) → Agrees sig σ after → Agrees sig σ before × (σ v ≡ term_of sig part)
+  agreed_before σ a =
+      let here = subst (Means sig (σ v)) b.here (a v) in (
+        λ u. elim (cases_eq u v) [
+          | inl same ↦ subst (λ w. Means sig (σ w) (before w)) (sym same) (was_meant (σ v) here (before v) b.held)
+          | inr other ↦ subst (Means sig (σ u)) (b.others u other) (a u)
+        ],
+        here,
+      )
+
+  parts_after : (cs : List ℕ) → AreParts sig cs before → IsPart sig cs (Some part) → AreParts sig cs after
+  parts_after cs a x u = elim (cases_eq u v) [
+    | inl same ↦ subst (λ w. IsPart sig cs (after w)) (sym same) (subst (IsPart sig cs) (sym b.here) x)
+    | inr other ↦ subst (IsPart sig cs) (sym (b.others u other)) (a u)
+  ]
+
+-- how far a match is: i codes of the left side are met, and these are the codes of the subject that are left
+pub record Going (sig left cs : List ℕ) (at i : ℕ) (rest : List ℕ) (bs : ℕ → Option (List ℕ)) : Type 0 where
+  pub few : length sig ≤ 32
+  pub side : T (is_term sig left)
+  pub ok : T (is_term sig cs)
+  pub place : ℕ
+  pub is : rest ≡ drop place cs
   pub enough : count (rest_at sig left i) ≤ count (rest_at sig cs place)
-  pub span : AllSpan sig cs bs
-  pub to : (σ : ℕ → Term) → under σ (term_of sig left) ≡ sub_at sig cs at → Agrees sig cs σ bs × Meets σ (rest_at sig left i) (rest_at sig cs place)
-  pub from : (σ : ℕ → Term) → Agrees sig cs σ bs → Meets σ (rest_at sig left i) (rest_at sig cs place) → under σ (term_of sig left) ≡ sub_at sig cs at
+  pub parts : AreParts sig cs bs
+  pub to : (σ : ℕ → Term) → under σ (term_of sig left) ≡ sub_at sig cs at → Agrees sig σ bs × Meets σ (rest_at sig left i) (rest_at sig cs place)
+  pub from : (σ : ℕ → Term) → Agrees sig σ bs → Meets σ (rest_at sig left i) (rest_at sig cs place) → under σ (term_of sig left) ≡ sub_at sig cs at
 
-module _ {sig left cs : List ℕ} {at : ℕ} (req : Meeting sig left cs at) where
+pub going_starts : (p : Place) (left : List ℕ) → T (is_term (arities_at p) left) → {rest : List ℕ} {bs : ℕ → Option (List ℕ)} → rest ≡ drop p.at p.codes.now → ((v : ℕ) → bs v ≡ None) → Going (arities_at p) left p.codes.now p.at 0 rest bs
+going_starts p left side {rest} {bs} e empty =
+    let sig = arities_at p in
+    let one : count (stack sig left) ≡ 1 = (reads sig left 1 (counted sig left side)).many in
+    let el = lone_of (stack sig left) one in
+    let some = some_at sig p.codes.now p.term p.at p.inside in
+    let et = first_of (rest_at sig p.codes.now p.at) some in
+    record {
+      few = few_symbols sig p.signature.now.limited;
+      side = side;
+      ok = p.term;
+      place = p.at;
+      is = e;
+      enough = omega arith;
+      parts = λ v. subst (IsPart sig p.codes.now) (sym (empty v)) tt;
+      to = λ σ q. (λ v. subst (Means sig (σ v)) (sym (empty v)) tt, meets_at σ (sym el) (sym et.1) (q, tt));
+      from = λ σ a q. (meets_at σ el et.1 q).0;
+    }
+
+module _ {sig left cs : List ℕ} {at i : ℕ} {rest : List ℕ} {bs : ℕ → Option (List ℕ)} (g : Going sig left cs at i rest bs) where
   few' : length sig ≤ 32768
-  few' = let a = req.few in omega arith
+  few' = let a = g.few in omega arith
 
-  side : T (is_term sig left)
-  side = req.pattern_term
-
-  ok : T (is_term sig cs)
-  ok = req.subject_term
-
-  inside : at < length cs
-  inside = req.within
-
-  pub going_starts : (bs : List (Option Range)) → length bs ≡ 8 → ((v : ℕ) → get_or bs v None ≡ None) → Going sig left cs at 0 at bs
-  going_starts bs n empty =
-      let one : count (stack sig left) ≡ 1 = (reads sig left 1 (counted sig left side)).many in
-      let el = lone_of (stack sig left) one in
-      let some = some_at sig cs ok at inside in
-      let et = first_of (rest_at sig cs at) some in
-      record {
-        eight = n;
-        enough = omega arith;
-        span = λ v. subst (Spans sig cs) (sym (empty v)) tt;
-        to = λ σ q. (λ v. subst (Means sig cs (σ v)) (sym (empty v)) tt, meets_at σ (sym el) (sym et.1) (q, tt));
-        from = λ σ a m. (meets_at σ el et.1 m).0;
-      }
-
-  pub going_done : {i place : ℕ} {bs : List (Option Range)} → Going sig left cs at i place bs → length left ≤ i → Solved sig left cs at bs
-  going_done {i} {place} {bs} g h =
+  pub going_done : length left ≤ i → Solved sig left cs at bs
+  going_done h =
       let e = at_drop_all (stack sig) left i h in
       record {
-        eight = g.eight;
-        span = g.span;
+        parts = g.parts;
         to = λ σ q. (g.to σ q).0;
         from = λ σ a. g.from σ a (meets_at σ (sym e) refl tt);
       }
 
-  module _ {i place : ℕ} {bs : List (Option Range)} (g : Going sig left cs at i place bs) (h : i < length left) where
-    pub going_inside : place < length cs
-    going_inside = none_past sig cs place (let a = g.enough in let b = some_at sig left side i h in omega arith)
+  module _ (h : i < length left) where
+    here : g.place < length cs
+    here = none_past sig cs g.place (let a = g.enough in let b = some_at sig left g.side i h in omega arith)
 
-    -- the end of the subterm at the place, and the variable's number
-    pub going_end : (r : ℕ) → r ≡ span_reply sig cs place → place + r ≡ place + size (sub_at sig cs place)
-    going_end r e = ap (λ k. place + k) (e ∙ span_is sig cs ok place going_inside)
+    -- the subject has a code for each of the left side
+    pub going_some : 0 < length rest
+    going_some = let a = here in let b = ap length g.is in let d = length-drop g.place cs in omega arith
 
-    pub going_low : 32768 ≤ get_or left i 0 → get_or left i 0 - 32768 < 8
-    going_low le = let a = low_at sig left side req.few i h in omega arith
+    cut : rest ≡ get_or cs g.place 0 ∷ drop (g.place + 1) cs
+    cut = g.is ∙ drop_more cs g.place 0 here
 
-    pub going_symbol : get_or left i 0 < 32768 → get_or cs place 0 ≡ get_or left i 0 → Going sig left cs at (i + 1) (place + 1) bs
-    going_symbol lt e =
-        let s = symbol_at sig left side i h lt in
-        let lt' : get_or cs place 0 < 32768 = omega arith in
-        let t = symbol_at sig cs ok place going_inside lt' in
+    pub going_symbol : (s first : ℕ) (others : List ℕ) → Symbol s ≡ code_kind (get_or left i 0) → rest ≡ first ∷ others → first ≡ get_or left i 0 → Going sig left cs at (i + 1) others bs
+    going_symbol symbol first others kind split same_code =
+        let lt : get_or left i 0 < 32768 = symbol_code _ symbol kind in
+        let e : get_or cs g.place 0 ≡ get_or left i 0 = cc (cut) in
+        let tail : others ≡ drop (g.place + 1) cs = cc (cut) in
+        let s = symbol_at sig left g.side i h lt in
+        let t = symbol_at sig cs g.ok g.place here (omega arith) in
         let n1 = s.many in
         let n2 = t.many in
         let n3 = ap (λ x. get_or sig x 0) e in
@@ -104,9 +149,13 @@ module _ {sig left cs : List ℕ} {at : ℕ} (req : Meeting sig left cs at) wher
         let a4 = ap count t.later ∙ count-joined_all t.args t.rest in
         let a5 = g.enough in
         record {
-          eight = g.eight;
+          few = g.few;
+          side = g.side;
+          ok = g.ok;
+          place = g.place + 1;
+          is = tail;
           enough = omega arith;
-          span = g.span;
+          parts = g.parts;
           to = λ σ q.
               let p = g.to σ q in
               let m = meets_at σ s.here t.here p.1 in
@@ -118,127 +167,82 @@ module _ {sig left cs : List ℕ} {at : ℕ} (req : Meeting sig left cs at) wher
               g.from σ a (meets_at σ (sym s.here) (sym t.here) (ap₂ app (sym e) q.0, q.1));
         }
 
-    pub going_apart : get_or left i 0 < 32768 → (get_or cs place 0 ≡ get_or left i 0 → ⊥) → (σ : ℕ → Term) → under σ (term_of sig left) ≡ sub_at sig cs at → ⊥
-    going_apart lt ne σ q =
-        let s = symbol_at sig left side i h lt in
+    pub going_apart : (s first : ℕ) (others : List ℕ) → Symbol s ≡ code_kind (get_or left i 0) → rest ≡ first ∷ others → (first ≡ get_or left i 0 → ⊥) → (σ : ℕ → Term) → under σ (term_of sig left) ≡ sub_at sig cs at → ⊥
+    going_apart symbol first others kind split apart σ q =
+        let lt : get_or left i 0 < 32768 = symbol_code _ symbol kind in
+        let e : first ≡ get_or cs g.place 0 = cc (cut) in
+        let s = symbol_at sig left g.side i h lt in
         let p = g.to σ q in
-        elim (cases_lt (get_or cs place 0) 32768) [
-          | inl l ↦ (let t = symbol_at sig cs ok place going_inside l in
+        elim (cases_lt (get_or cs g.place 0) 32768) [
+          | inl l ↦ (let t = symbol_at sig cs g.ok g.place here l in
               let m = meets_at σ s.here t.here p.1 in
               let m0 = m.0 in
-              let x : get_or cs place 0 ≡ get_or left i 0 = cc in ne x)
-          | inr k ↦ (let t = variable_at sig cs place going_inside k in
+              apart (cc))
+          | inr k ↦ (let t = variable_at sig cs g.place here k in
               let m = meets_at σ s.here t p.1 in
               let m0 = m.0 in
-              let z : ◌≡◌ {A = ℕ} 0 1 = cc in omega arith)
+              cc)
         ]
 
-    module _ (var' : 32768 ≤ get_or left i 0) (w end : ℕ) (vw : w ≡ get_or left i 0 - 32768) (ends : end ≡ place + size (sub_at sig cs place)) where
-      opened : rest_at sig left i ≡ more (var w) (rest_at sig left (i + 1))
-      opened = variable_at sig left i h var' ∙ ap (λ x. more (var x) (rest_at sig left (i + 1))) (sym vw)
+    -- a variable meets a whole subterm
+    pub going_low : (w : ℕ) → Variable w ≡ code_kind (get_or left i 0) → w < 8
+    going_low w kind = let a = low_at sig left g.side g.few i h in let v = variable_code _ w kind in omega arith
 
-      passed : rest_at sig cs place ≡ more (sub_at sig cs place) (rest_at sig cs end)
-      passed = (part_at sig few' cs ok place going_inside).here ∙ ap (λ x. more (sub_at sig cs place) (rest_at sig cs x)) (sym ends)
+    module _ (n : ℕ) (counts : n ≡ span_reply sig rest 0) where
+      going_span : n ≡ size (sub_at sig cs g.place)
+      going_span =
+          let a = short sig cs g.ok in
+          let b = length-drop g.place cs in
+          let few_codes : length (drop g.place cs) ≤ 1024 = omega arith in
+          counts
+          ∙ ap (λ l. span_reply sig l 0) g.is
+          ∙ ap (λ b. cond b (span sig 1 (drop g.place cs)) 0) (le-leb (length (drop g.place cs)) 1024 few_codes)
+          ∙ span-at sig cs g.ok g.place here
 
-      enough' : count (rest_at sig left (i + 1)) ≤ count (rest_at sig cs end)
-      enough' = let a = ap count opened in let b = ap count passed in let c = g.enough in omega arith
+      module _ (w : ℕ) (kind : Variable w ≡ code_kind (get_or left i 0)) {part : List ℕ} (front : part ≡ take n rest) where
+        opened : rest_at sig left i ≡ more (var w) (rest_at sig left (i + 1))
+        opened = let v = variable_code _ w kind in variable_at sig left i h v.0 ∙ ap (λ x. more (var x) (rest_at sig left (i + 1))) (sym v.1)
 
-      fresh-means : (σ : ℕ → Term) → get_or bs w None ≡ None → w < 8 → (range : Range) → range.from ≡ place → Agrees sig cs σ bs → σ w ≡ sub_at sig cs place → Agrees sig cs σ (set bs w (Some range))
-      fresh-means σ e low range at_place a x u = elim (cases_eq u w) [
-        | inl same ↦ (let k : w < length bs = let z = g.eight in omega arith in
-            subst (λ y. Means sig cs (σ y) (get_or (set bs w (Some range)) y None)) (sym same)
-            (subst (Means sig cs (σ w)) (sym (get_or-set_same bs w (Some range) None k)) (x ∙ ap (sub_at sig cs) (sym at_place))))
-        | inr other ↦ subst (Means sig cs (σ u)) (sym (get_or-set_other bs w u (Some range) None other)) (a u)
-      ]
+        end : ℕ
+        end = g.place + size (sub_at sig cs g.place)
 
-      was_means : (σ : ℕ → Term) → get_or bs w None ≡ None → w < 8 → (range : Range) → range.from ≡ place → Agrees sig cs σ (set bs w (Some range)) → Agrees sig cs σ bs × (σ w ≡ sub_at sig cs place)
-      was_means σ e low range at_place a =
-          let k : w < length bs = let z = g.eight in omega arith in (
-            λ u. elim (cases_eq u w) [
-              | inl same ↦ subst (λ y. Means sig cs (σ y) (get_or bs y None)) (sym same) (subst (Means sig cs (σ w)) (sym e) tt)
-              | inr other ↦ subst (Means sig cs (σ u)) (get_or-set_other bs w u (Some range) None other) (a u)
-            ],
-            subst (Means sig cs (σ w)) (get_or-set_same bs w (Some range) None k) (a w) ∙ ap (sub_at sig cs) at_place,
-          )
+        passed : rest_at sig cs g.place ≡ more (sub_at sig cs g.place) (rest_at sig cs end)
+        unfolding end
+        passed = (part_at sig few' cs g.ok g.place here).here
 
-      new_span : w < 8 → (range : Range) → range.from ≡ place → range.to ≡ end → AllSpan sig cs (set bs w (Some range))
-      new_span low range at_place at_end u = elim (cases_eq u w) [
-        | inl same ↦ (let k : w < length bs = let z = g.eight in omega arith in
-            subst (λ y. Spans sig cs (get_or (set bs w (Some range)) y None)) (sym same)
-            (subst (Spans sig cs) (sym (get_or-set_same bs w (Some range) None k))
-            (let p = going_inside in omega arith, at_end ∙ ends ∙ ap (λ x. x + size (sub_at sig cs x)) (sym at_place))))
-        | inr other ↦ subst (Spans sig cs) (sym (get_or-set_other bs w u (Some range) None other)) (g.span u)
-      ]
+        part_is : part ≡ codes (sub_at sig cs g.place)
+        part_is =
+            front
+            ∙ ap₂ take going_span g.is
+            ∙ ap (take (size (sub_at sig cs g.place))) (part_at sig few' cs g.ok g.place here).split
+            ∙ take_at (codes (sub_at sig cs g.place)) _ (size (sub_at sig cs g.place)) (length_codes (sub_at sig cs g.place))
 
-      -- a variable that is bound already
-      module _ (old : Range) (e : get_or bs w None ≡ Some old) where
-        spans : Spans sig cs (Some old)
-        spans = subst (Spans sig cs) e (g.span w)
+        part_means : sub_at sig cs g.place ≡ term_of sig part
+        part_means = sym (term_of_codes sig few' (sub_at sig cs g.place) (part_at sig few' cs g.ok g.place here).fine) ∙ ap (term_of sig) (sym part_is)
 
-        old_cut : between old.from old.to cs ≡ codes (sub_at sig cs old.from)
-        old_cut = ap (λ x. between old.from x cs) spans.1 ∙ (part_at sig few' cs ok old.from spans.0).cut
+        pub going_binds : {others : List ℕ} {after : ℕ → Option (List ℕ)} → others ≡ drop n rest → Bound bs w part after → Going sig left cs at (i + 1) others after
+        unfolding end
+        going_binds {others} {after} back b = record {
+          few = g.few;
+          side = g.side;
+          ok = g.ok;
+          place = end;
+          is = back ∙ ap₂ drop going_span g.is ∙ drop-drop (size (sub_at sig cs g.place)) g.place cs;
+          enough = let a = ap count opened in let b = ap count passed in let c = g.enough in omega arith;
+          parts = parts_after sig b cs g.parts (g.place, here, part_is);
+          to = λ σ q. (let p = g.to σ q in let x = meets_at σ opened passed p.1 in (agrees_after sig b σ p.0 (x.0 ∙ part_means), x.1));
+          from = λ σ a x. (let p = agreed_before sig b σ a in g.from σ p.0 (meets_at σ (sym opened) (sym passed) (p.1 ∙ sym part_means, x)));
+        }
 
-        new_cut : (range : Range) → range.from ≡ place → range.to ≡ end → between range.from range.to cs ≡ codes (sub_at sig cs place)
-        new_cut range at_place at_end = ap₂ (λ x y. between x y cs) at_place (at_end ∙ ends) ∙ (part_at sig few' cs ok place going_inside).cut
+        same_part : (o : Option (List ℕ)) → IsPart sig cs o → Means sig (sub_at sig cs g.place) o → MatchOption o ⊥ (λ old. old ≢ part) → ⊥
+        same_part None a x clashes = clashes
+        same_part (Some old) a x clashes =
+            let t = sub_at sig cs a.0 in
+            let old_means : term_of sig old ≡ t = ap (term_of sig) a.2 ∙ term_of_codes sig few' t (part_at sig few' cs g.ok a.0 a.1).fine in
+            clashes (a.2 ∙ ap codes (sym old_means ∙ sym x) ∙ sym part_is)
 
-        same_subs : (range : Range) → range.from ≡ place → range.to ≡ end → between old.from old.to cs ≡ between range.from range.to cs → sub_at sig cs old.from ≡ sub_at sig cs place
-        same_subs range at_place at_end b =
-            same_codes sig few' (sub_at sig cs old.from) (sub_at sig cs place) (part_at sig few' cs ok old.from spans.0).fine (part_at sig few' cs ok place going_inside).fine
-            (sym old_cut ∙ b ∙ new_cut range at_place at_end)
-
-        held : (σ : ℕ → Term) → Agrees sig cs σ bs → σ w ≡ sub_at sig cs old.from
-        held σ a = subst (Means sig cs (σ w)) e (a w)
-
-      binds : w < 8 → (range : Range) → range.from ≡ place → range.to ≡ end → (o : Option Range) → get_or bs w None ≡ o → (after : List (Option Range))
-          → Took cs o bs w range true after → Going sig left cs at (i + 1) end after
-      binds low range at_place at_end None e after t =
-          subst (Going sig left cs at (i + 1) end) (sym t.1) record {
-            eight = length-set bs w (Some range) ∙ g.eight;
-            enough = enough';
-            span = new_span low range at_place at_end;
-            to = λ σ q. (let p = g.to σ q in let m = meets_at σ opened passed p.1 in (fresh-means σ e low range at_place p.0 m.0, m.1));
-            from = λ σ a m. (let b = was_means σ e low range at_place a in g.from σ b.0 (meets_at σ (sym opened) (sym passed) (b.1, m)));
-          }
-      binds low range at_place at_end (Some old) e after t =
-          let same = same_subs old e range at_place at_end (t.0.0 refl) in
-          subst (Going sig left cs at (i + 1) end) (sym t.1) record {
-            eight = g.eight;
-            enough = enough';
-            span = g.span;
-            to = λ σ q. (let p = g.to σ q in let m = meets_at σ opened passed p.1 in (p.0, m.1));
-            from = λ σ a m. g.from σ a (meets_at σ (sym opened) (sym passed) (held old e σ a ∙ same, m));
-          }
-
-      clashes : (range : Range) → range.from ≡ place → range.to ≡ end → (o : Option Range) → get_or bs w None ≡ o → (after : List (Option Range))
-          → Took cs o bs w range false after → (σ : ℕ → Term) → under σ (term_of sig left) ≡ sub_at sig cs at → ⊥
-      clashes range at_place at_end None e after t σ q = both_ways false refl t.0
-      clashes range at_place at_end (Some old) e after t σ q =
-          let p = g.to σ q in
-          let m = meets_at σ opened passed p.1 in
-          let same : sub_at sig cs old.from ≡ sub_at sig cs place = sym (held old e σ p.0) ∙ m.0 in
-          both_ways false refl (t.0.1 (old_cut old e ∙ ap codes same ∙ sym (new_cut old e range at_place at_end)))
-
-      pub going_binds : w < 8 → (range : Range) → range.from ≡ place → range.to ≡ end → (r : Bool) (after : List (Option Range)) → Took cs (get_or bs w None) bs w range r after → r ≡ true
-          → Going sig left cs at (i + 1) end after
-      going_binds low range at_place at_end r after t yes' =
-          binds low range at_place at_end (get_or bs w None) refl after (subst (λ b. Took cs (get_or bs w None) bs w range b after) yes' t)
-
-      pub going_clashes : (range : Range) → range.from ≡ place → range.to ≡ end → (r : Bool) (after : List (Option Range)) → Took cs (get_or bs w None) bs w range r after → r ≡ false
-          → (σ : ℕ → Term) → under σ (term_of sig left) ≡ sub_at sig cs at → ⊥
-      going_clashes range at_place at_end r after t no' =
-          clashes range at_place at_end (get_or bs w None) refl after (subst (λ b. Took cs (get_or bs w None) bs w range b after) no' t)
-
-      pub going_inside_old : Inside cs (get_or bs w None)
-      going_inside_old = go (get_or bs w None) (g.span w)
-        where
-          go : (o : Option Range) → Spans sig cs o → Inside cs o
-          go None x = tt
-          go (Some r) x = let f = sub_fits sig cs ok r.from x.0 in let y = x.1 in (omega arith, omega arith)
-
-pub nones : (n v : ℕ) → get_or {A = Option Range} (replicate n None) v None ≡ None
-nones zero v = refl
-nones (suc n) zero = refl
-nones (suc n) (suc v) = nones n v
-
-pub going_moved : {sig left cs : List ℕ} {at i p q : ℕ} {bs ds : List (Option Range)} → q ≡ p → ds ≡ bs → Going sig left cs at i p bs → Going sig left cs at i q ds
-going_moved {sig} {left} {cs} {at} {i} {p} {q} {bs} {ds} e f g = subst (λ x. Going sig left cs at i q x) (sym f) (subst (λ x. Going sig left cs at i x bs) (sym e) g)
+        pub going_clashes : MatchOption (bs w) ⊥ (λ old. old ≢ part) → (σ : ℕ → Term) → under σ (term_of sig left) ≡ sub_at sig cs at → ⊥
+        going_clashes clashes σ q =
+            let p = g.to σ q in
+            let x = meets_at σ opened passed p.1 in
+            same_part (bs w) (g.parts w) (subst (λ t. Means sig t (bs w)) x.0 (p.0 w)) clashes

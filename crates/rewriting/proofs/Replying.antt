@@ -1,83 +1,65 @@
 -- What a step by a rule at a place answers.
-use Rattle.std.proofs.Common.{◌≡◌, ℕ, ◌+◌, ◌<◌, ◌≤◌, Bool, true, false, cond, T, leb, List, ◌++◌, length, take, drop, Ok, Err, Option, Result, sym, refl, ap, ◌∙◌, ap₂, arith}
+use Rattle.std.proofs.Common.{◌≡◌, ℕ, ◌<◌, ◌≤◌, Bool, true, false, cond, T, leb, List, length, Some, Ok, Err, Option, Result, sym, ap, ◌∙◌, subst₂, ap₂, arith}
+use Rattle.std.specs.Result.{IsErrAnd}
 use Rattle.std.proofs.lemmas.Bool.{le-leb, lt-leb}
-use Rattle.rewriting.specs.declared.bindings.Range.{Range}
+use Rattle.rewriting.specs.declared.bindings.Bindings.{Bindings}
 use Rattle.rewriting.specs.declared.fault.RewriteFault.{RewriteFault}
 use Rattle.rewriting.specs.declared.fault.RewriteFault.TheVariants as fault
-use Rattle.terms.specs.Terms.{Term, size, under}
-use Rattle.terms.specs.Codes.{is_term, term_of, sub_at}
-use Rattle.terms.specs.Shapes.{all_within, is_rule, rule_of}
-use Rattle.terms.specs.Replies.{span_reply}
-use Rattle.terms.proofs.Booleans.{snd_of, holds}
+use Rattle.rewriting.specs.declared.place.Place.{Place}
+use Rattle.terms.specs.Codes.{term_of}
+use Rattle.terms.specs.Replies.{viewed}
+use Rattle.terms.specs.Shapes.{is_rule, rule_of}
+use Rattle.terms.proofs.Booleans.{holds}
 use Rattle.terms.proofs.Exactly.{rule-parts, rule_bound}
 use Rattle.terms.proofs.Readings.{counted_over, counted_codes}
-use Rattle.terms.proofs.Spans.{span_is}
-use Rattle.terms.proofs.Views.{counted, sub_fits}
+use Rattle.terms.proofs.Scans.{few_symbols}
+use Rattle.terms.proofs.Views.{counted}
 use Rattle.rewriting.specs.Matching.{matches}
-use Rattle.rewriting.specs.Bindings.{Meeting, Applying, Solved, AllInside}
-use Rattle.rewriting.specs.Filling.{Grew, filled, next_codes}
+use Rattle.rewriting.specs.Bindings.{bound_to, Solved, Answered}
+use Rattle.rewriting.specs.Filling.{filled, replaced, next_codes}
+use Rattle.rewriting.specs.Places.{arities_at, subterm}
 use Rattle.rewriting.specs.Replies.{stepped}
-use Rattle.rewriting.proofs.Images.{unmatched}
-use Rattle.rewriting.proofs.Solutions.{filled_is, solved_matches, inside_all}
+use Rattle.rewriting.proofs.Solutions.{filled_is, solved_matches}
 
 stepped_to : List ℕ → Result (List ℕ) RewriteFault
 stepped_to x = Ok x
 
-module _ {sig left right cs : List ℕ} {at : ℕ} (req : Applying sig left right cs at) where
-  few : length sig ≤ 32
-  few = req.few
+-- the exit of a `?` at what does not fit
+pub refused_long : {x : Result (List ℕ) RewriteFault} (view : Unit {0} → List ℕ) (r : Result (Unit {0}) RewriteFault) → IsErrAnd r (λ e. e ≡ fault.TooLong) → Err fault.TooLong ≡ x → viewed view r ≡ x
+refused_long view (Ok v) h e = absurd h
+refused_long view (Err f) h e = cc
 
-  rule : T (is_rule sig left right)
-  rule = req.rule
+few_at : (p : Place) → length (arities_at p) ≤ 32
+few_at p = few_symbols (arities_at p) p.signature.now.limited
 
-  ok : T (is_term sig cs)
-  ok = req.subject_term
+module _ (p : Place) (left right : List ℕ) (rule : T (is_rule (arities_at p) left right)) where
+  step_reply : (a b : Bool) → matches (term_of (arities_at p) left) (subterm p) ≡ a → leb (length (next_codes (arities_at p) p.codes.now p.at (rule_of (arities_at p) left right))) 1024 ≡ b
+      → stepped (arities_at p) p.codes.now p.at (rule_of (arities_at p) left right) ≡ cond a (cond b (Ok (next_codes (arities_at p) p.codes.now p.at (rule_of (arities_at p) left right))) (Err fault.TooLong)) (Err fault.NoMatch)
+  step_reply a b e f =
+      let n = next_codes (arities_at p) p.codes.now p.at (rule_of (arities_at p) left right) in
+      ap₂ (λ x y. cond {A = Result (List ℕ) RewriteFault} x (cond y (Ok n) (Err fault.TooLong)) (Err fault.NoMatch)) e f
 
-  h : at < length cs
-  h = req.within
+  module _ (b : Bindings) (r : Option Bindings) (is : r ≡ Some b) (pattern : List ℕ) (a : Answered r (arities_at p) pattern p.codes.now p.at) (same_left : pattern ≡ left) (side : List ℕ) (same : side ≡ right) where
+    solved : Solved (arities_at p) left p.codes.now p.at (bound_to b)
+    solved = subst₂ (λ x l. Answered x (arities_at p) l p.codes.now p.at) is same_left a
 
-  pub meets : Meeting sig left cs at
-  meets = record { few = few; pattern_term = (rule-parts sig few left right rule).left_term; subject_term = ok; within = h }
+    matched : matches (term_of (arities_at p) left) (subterm p) ≡ true
+    matched = holds _ (solved_matches (arities_at p) (few_at p) left p.codes.now p.term p.at (bound_to b) solved)
 
-  pub few_right : T (all_within 32775 right)
-  few_right = snd_of _ _ (rule-parts sig few left right rule).right_side
+    whole : replaced (arities_at p) p.codes.now p.at (filled (bound_to b) side) ≡ next_codes (arities_at p) p.codes.now p.at (rule_of (arities_at p) left right)
+    whole =
+        let sig = arities_at p in
+        let t = (rule-parts sig (few_at p) left right rule).right_term in
+        ap (λ l. replaced sig p.codes.now p.at l)
+        (ap (filled (bound_to b)) (same ∙ sym (counted_codes sig right (counted sig right t)))
+        ∙ filled_is sig (few_at p) left p.codes.now p.term p.at (bound_to b) solved (term_of sig right) (counted_over sig right (counted sig right t)) (rule_bound sig (few_at p) left right rule))
 
-  step-reply : (a b : Bool) → matches (term_of sig left) (sub_at sig cs at) ≡ a → leb (length (next_codes sig cs at (rule_of sig left right))) 1024 ≡ b
-      → stepped sig cs at (rule_of sig left right) ≡ cond a (cond b (Ok (next_codes sig cs at (rule_of sig left right))) (Err fault.TooLong)) (Err fault.NoMatch)
-  step-reply a b p q =
-      let n = next_codes sig cs at (rule_of sig left right) in
-      ap₂ (λ x y. cond {A = Result (List ℕ) RewriteFault} x (cond y (Ok n) (Err fault.TooLong)) (Err fault.NoMatch)) p q
+    pub step_long : 1024 < length (replaced (arities_at p) p.codes.now p.at (filled (bound_to b) side)) → Err fault.TooLong ≡ stepped (arities_at p) p.codes.now p.at (rule_of (arities_at p) left right)
+    step_long long = let w = ap length whole in sym (step_reply true false matched (lt-leb _ 1024 (omega arith)))
 
-  pub step_unmatched : ((σ : ℕ → Term) → under σ (term_of sig left) ≡ sub_at sig cs at → ⊥) → stepped sig cs at (rule_of sig left right) ≡ Err fault.NoMatch
-  step_unmatched a = step-reply false _ (unmatched (term_of sig left) (sub_at sig cs at) a) refl
-
-  pub end_is : (n : ℕ) → n ≡ span_reply sig cs at → at + n ≡ at + size (sub_at sig cs at)
-  end_is n e = ap (λ k. at + k) (e ∙ span_is sig cs ok at h)
-
-  pub end_within : (n : ℕ) → n ≡ span_reply sig cs at → at + n ≤ length cs
-  end_within n e = let a = sub_fits sig cs ok at h in let b = end_is n e in omega arith
-
-  module _ {bs : List (Option Range)} (s : Solved sig left cs at bs) {n : ℕ} (e : n ≡ span_reply sig cs at) where
-    pub bound_inside : AllInside cs bs
-    bound_inside = inside_all sig few left cs ok at bs s
-
-    whole_is : take at cs ++ (filled cs bs right ++ drop (at + n) cs) ≡ next_codes sig cs at (rule_of sig left right)
-    whole_is =
-        let t = (rule-parts sig few left right rule).right_term in
-        ap₂ (λ x y. take at cs ++ (x ++ drop y cs))
-        (ap (filled cs bs) (sym (counted_codes sig right (counted sig right t))) ∙ filled_is sig few left cs ok at bs s (term_of sig right) (counted_over sig right (counted sig right t)) (rule_bound sig few left right rule)) (end_is n e)
-
-    matched : matches (term_of sig left) (sub_at sig cs at) ≡ true
-    matched = holds _ (solved_matches sig few left cs ok at bs s)
-
-    pub step_long : (after : List ℕ) → Grew false (take at cs ++ (filled cs bs right ++ drop (at + n) cs)) after → stepped sig cs at (rule_of sig left right) ≡ Err fault.TooLong
-    step_long after g =
-        let w = ap length whole_is in
-        step-reply true false matched (lt-leb _ 1024 (omega arith))
-
-    pub step-done : (after : List ℕ) → Grew true (take at cs ++ (filled cs bs right ++ drop (at + n) cs)) after → length after ≤ 1024 → stepped sig cs at (rule_of sig left right) ≡ Ok after
+    pub step_done : (after : List ℕ) → after ≡ replaced (arities_at p) p.codes.now p.at (filled (bound_to b) side) → length after ≤ 1024 → Ok after ≡ stepped (arities_at p) p.codes.now p.at (rule_of (arities_at p) left right)
     unfolding stepped_to
-    step-done after g l =
-        let w : after ≡ next_codes sig cs at (rule_of sig left right) = g ∙ whole_is in
+    step_done after e fits =
+        let w : after ≡ next_codes (arities_at p) p.codes.now p.at (rule_of (arities_at p) left right) = e ∙ whole in
         let k = ap length w in
-        step-reply true true matched (le-leb _ 1024 (omega arith)) ∙ ap stepped_to (sym w)
+        ap stepped_to w ∙ sym (step_reply true true matched (le-leb _ 1024 (omega arith)))

@@ -1,5 +1,5 @@
 -- The codes after a rewrite are those of the term after the step.
-use Rattle.std.proofs.Common.{◌≡◌, ℕ, zero, suc, ◌<◌, ◌≤◌, ◌&&◌, T, List, [], ◌∷◌, length, sym, ap, ◌∙◌, subst, ap₂, arith}
+use Rattle.std.proofs.Common.{◌≡◌, ℕ, zero, suc, ◌<◌, ◌≤◌, ◌&&◌, T, List, [], ◌∷◌, length, refl, sym, ap, ◌∙◌, subst, ap₂, arith}
 use Rattle.std.proofs.lemmas.Bool.{le-leb}
 use Rattle.terms.specs.Terms.{Term, codes, size, over, under}
 use Rattle.terms.specs.Contexts.{plug, Occurrence}
@@ -15,6 +15,7 @@ use Rattle.terms.proofs.Splices.{over_plugged, over_part, part_is, replaced}
 use Rattle.terms.proofs.Unique.{same_place, place_below}
 use Rattle.rewriting.specs.Matching.{matcher, matches}
 use Rattle.rewriting.specs.Filling.{next_codes}
+use Rattle.rewriting.specs.Replies.{rule_at}
 use Rattle.rewriting.proofs.Images.{under_bound, under_same, matches_all, matches_sound}
 
 pub numbered_same : (rules : List Rule) (n : ℕ) (r s : Rule) → Numbered rules n r → Numbered rules n s → r ≡ s
@@ -26,6 +27,14 @@ pub numbered_below : (rules : List Rule) (n : ℕ) (r : Rule) → Numbered rules
 numbered_below [] n r h = absurd h
 numbered_below (x ∷ rules) zero r h = omega arith
 numbered_below (x ∷ rules) (suc n) r h = let z = numbered_below rules n r h in omega arith
+
+pub listed_at : (rules : List Rule) (n : ℕ) → n < length rules → Numbered rules n (rule_at rules n)
+listed_at [] n h = absurd (omega arith)
+listed_at (x ∷ rules) zero h = refl
+listed_at (x ∷ rules) (suc n) h = listed_at rules n (omega arith)
+
+pub rule_listed : (rules : List Rule) (n : ℕ) (r : Rule) → Numbered rules n r → r ≡ rule_at rules n
+rule_listed rules n r listed = numbered_same rules n r (rule_at rules n) listed (listed_at rules n (numbered_below rules n r listed))
 
 bound_of : (sig : List ℕ) (r : Rule) → T (rule_over sig r) → T (bound r.left r.right)
 bound_of sig r h = snd_of (headed r.left) _ (snd_of (over sig r.left && over sig r.right) (headed r.left && bound r.left r.right) h)

@@ -1,10 +1,10 @@
 -- The laws of matching and of one rewrite, from what they answer.
-use Rattle.std.proofs.Common.{◌≡◌, ℕ, zero, suc, ◌<◌, ◌≤◌, Bool, true, false, cond, ◌&&◌, T, ltb, leb, List, [], ◌∷◌, length, Ok, Err, Result, sym, refl, ap, ◌∙◌, subst, ap₂, arith}
+use Rattle.std.proofs.Common.{◌≡◌, ℕ, ◌<◌, ◌≤◌, Bool, true, false, cond, ◌&&◌, T, ltb, leb, List, length, Ok, Err, Result, sym, refl, ap, ◌∙◌, subst, ap₂, arith}
 use Rattle.std.proofs.lemmas.Bool.{ltb-true, ltb-false, leb-true, leb-false, lt-ltb}
 use Rattle.rewriting.specs.declared.fault.RewriteFault.{RewriteFault}
 use Rattle.rewriting.specs.declared.fault.RewriteFault.TheVariants as fault
 use Rattle.terms.specs.Terms.{Term, size}
-use Rattle.terms.specs.Rules.{Rule, Numbered, rules_over}
+use Rattle.terms.specs.Rules.{Rule, rules_over}
 use Rattle.terms.specs.Steps.{Step}
 use Rattle.terms.specs.Codes.{is_term, term_of, sub_at}
 use Rattle.terms.specs.Laws.{Reading}
@@ -17,12 +17,7 @@ use Rattle.rewriting.specs.Filling.{next_codes}
 use Rattle.rewriting.specs.Replies.{match_reply, rule_at, stepped, rewritten, answer, codes_after}
 use Rattle.rewriting.specs.Laws.{MatchExactly, Matched, Told, Rewrites}
 use Rattle.rewriting.proofs.Images.{matches_sound, matches_all}
-use Rattle.rewriting.proofs.Stepwise.{numbered_below, step_once, step_inside, size_of, step_sound, step-matches, next_size, next_term}
-
-pub listed_at : (rules : List Rule) (n : ℕ) → n < length rules → Numbered rules n (rule_at rules n)
-listed_at [] n h = let z : ⊥ = omega arith in absurd z
-listed_at (x ∷ rules) zero h = refl
-listed_at (x ∷ rules) (suc n) h = listed_at rules n (omega arith)
+use Rattle.rewriting.proofs.Stepwise.{listed_at, numbered_below, step_once, step_inside, size_of, step_sound, step-matches, next_size, next_term}
 
 found : Bool → Result Bool RewriteFault
 found b = Ok b

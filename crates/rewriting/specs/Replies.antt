@@ -1,5 +1,5 @@
 -- What the calls answer, with the tests in the order in which they are made.
-use Rattle.std.specs.Prelude.{◌≡◌, ℕ, Bool, cond, ◌&&◌, List, length, Ok, Err, Result, nat_le, nat_lt, slice_index_or}
+use Rattle.std.specs.Prelude.{ℕ, Bool, cond, ◌&&◌, List, length, Ok, Err, Result, nat_le, nat_lt, slice_index_or}
 use Rattle.refusals.specs.declared.Refusal.{Refusal}
 use Rattle.refusals.specs.declared.Layer.TheVariants.{Review, Job}
 use Rattle.rewriting.specs.declared.fault.RewriteFault.{RewriteFault}
@@ -45,8 +45,3 @@ answer (Err e) = Err e
 abbrev pub codes_after : List ℕ → Result (List ℕ) RewriteFault → List ℕ
 codes_after cs (Ok next) = next
 codes_after cs (Err e) = cs
-
--- memory that the next codes are written into, where there are any
-abbrev pub Written : Result (List ℕ) RewriteFault → List ℕ → Type 0
-Written (Ok next) memory = memory ≡ next
-Written (Err e) memory = Unit {0}

@@ -1,8 +1,12 @@
 // Why a call on terms has no result.
-ghost use Rattle.std.specs.Prelude.{◌≡◌};
+ghost use Rattle.std.specs.Prelude.{◌≡◌, Some};
+ghost use Rattle.refusals.specs.Lines.{line};
+ghost use Rattle.rewriting.specs.declared.fault.RewriteFault.TheVariants as fault;
 ghost use Rattle.rewriting.specs.Replies.{fault_refusal};
 
+use bounded::Full;
 use refusals::{Layer, Refusal};
+use std::fmt;
 
 #[derive(Clone, Copy, PartialEq, Eq, Debug)]
 pub enum RewriteFault {
@@ -15,11 +19,19 @@ pub enum RewriteFault {
     TooLong,
 }
 
-impl RewriteFault {
-    pub fn refusal(&self) -> Refusal
-        ensures { result ≡ fault_refusal self.now }
-    {
-        let (number, layer) = match self {
+impl From<Full> for RewriteFault {
+    ghost from_gives = { λ _ r. r ≡ fault.TooLong };
+
+    fn from(_full: Full) -> Self {
+        Self::TooLong
+    }
+}
+
+impl From<RewriteFault> for Refusal {
+    ghost from_gives = { λ fault refusal. refusal ≡ fault_refusal fault };
+
+    fn from(fault: RewriteFault) -> Refusal {
+        let (number, layer) = match fault {
             RewriteFault::Malformed => (36, Layer::Review),
             RewriteFault::NoRule => (21, Layer::Job),
             RewriteFault::NoPlace => (22, Layer::Job),
@@ -31,5 +43,13 @@ impl RewriteFault {
             layer,
             place: 0,
         }
+    }
+}
+
+impl fmt::Display for RewriteFault {
+    ghost output = { λ fault. Some (line (fault_refusal fault)) };
+
+    fn fmt<W: fmt::Write>(&self, f: &mut fmt::Formatter<W>) -> fmt::Result {
+        Refusal::from(*self).fmt(f)
     }
 }

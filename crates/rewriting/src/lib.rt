@@ -5,6 +5,7 @@
 mod bindings;
 pub mod fault;
 pub mod matching;
+mod place;
 mod replacing;
 mod searching;
 pub mod subject;

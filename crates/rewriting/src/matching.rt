@@ -1,46 +1,45 @@
 // Matching a pattern with the subterm at a place.
-ghost use Rattle.std.specs.Prelude.{◌≡◌};
+ghost use Rattle.std.specs.Prelude.{◌≡◌, T, is_some};
+ghost use Rattle.terms.specs.Codes.{is_term, term_of};
 ghost use Rattle.terms.specs.Models.{arities_of};
-ghost use Rattle.rewriting.specs.Bindings.{Meeting, Answered};
-ghost use Rattle.rewriting.specs.Replies.{match_reply};
+ghost use Rattle.rewriting.specs.Bindings.{Answered};
 ghost use Rattle.rewriting.specs.Laws.{Matched};
+ghost use Rattle.rewriting.specs.Matching.{matches as match_test};
+ghost use Rattle.rewriting.specs.Places.{arities_at, subterm};
+ghost use Rattle.rewriting.specs.Replies.{match_reply};
 
-use crate::bindings::{Bindings, Range};
+use crate::bindings::Bindings;
 use crate::fault::RewriteFault;
-use terms::{FIRST_VARIABLE, Signature};
+use crate::place::Place;
+use terms::{Code, Signature};
 
-// The codes of pattern and subject go side by side: a symbol meets itself, a variable takes a whole subterm.
-pub(crate) fn match_at(
-    signature: &Signature,
-    pattern: &[u16],
-    codes: &[u16],
-    at: usize,
-    bindings: &mut Bindings,
-) -> bool
-    requires { Meeting (arities_of signature.now) pattern.now codes.now at }
-    ensures { Answered result (arities_of signature.now) pattern.now codes.now at bindings.new.ranges }
-{
-    bindings.ranges = [None; 8];
-    let mut place = at;
-    for code in pattern {
-        if *code < FIRST_VARIABLE {
-            if codes[place] != *code {
-                return false;
+impl<'a> Place<'a> {
+    // The codes of pattern and subject go side by side: a symbol meets itself, a variable takes a whole subterm.
+    pub(crate) fn match_with(&self, pattern: &[u16]) -> Option<Bindings<'a>>
+        requires { T (is_term (arities_at self.now) pattern.now) }
+        ensures value { is_some result ≡ match_test (term_of (arities_at self.now) pattern.now) (subterm self.now) }
+        ensures means { Answered result (arities_at self.now) pattern.now self.now.codes.now self.now.at }
+    {
+        let mut bindings = Bindings::new();
+        let mut rest = &self.codes[self.at..];
+        for code in pattern {
+            match Code::from(*code) {
+                Code::Symbol(_) => {
+                    let (first, arguments) = rest.split_first()?;
+                    if first != code {
+                        return None;
+                    }
+                    rest = arguments;
+                }
+                Code::Variable(v) => {
+                    let (part, others) = rest.split_at(self.signature.span(rest, 0));
+                    bindings.bind(v as usize, part)?;
+                    rest = others;
+                }
             }
-            place += 1;
-        } else {
-            let end = place + signature.span(codes, place);
-            let range = Range {
-                from: place,
-                to: end,
-            };
-            if !bindings.bind(codes, (*code - FIRST_VARIABLE) as usize, range) {
-                return false;
-            }
-            place = end;
         }
+        Some(bindings)
     }
-    true
 }
 
 // Whether some substitution makes the pattern equal to the subterm at a place. Variables of the subject are
@@ -57,12 +56,6 @@ pub fn matches(
     if !signature.is_term(pattern) {
         return Err(RewriteFault::Malformed);
     }
-    if !signature.is_term(codes) {
-        return Err(RewriteFault::Malformed);
-    }
-    if place >= codes.len() {
-        return Err(RewriteFault::NoPlace);
-    }
-    let mut bindings = Bindings { ranges: [None; 8] };
-    Ok(match_at(signature, pattern, codes, place, &mut bindings))
+    let place = Place::new(signature, codes, place)?;
+    Ok(place.match_with(pattern).is_some())
 }

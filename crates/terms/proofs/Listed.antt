@@ -1,7 +1,7 @@
 -- Rules that are kept in a list: the test of all of them, and a system made of them.
-use Rattle.std.proofs.Common.{◌≡◌, ℕ, ◌+◌, ◌<◌, ◌≤◌, Bool, true, false, cond, ◌&&◌, leb, List, [], ◌∷◌, ◌++◌, length, get_or, drop, Ok, Err, Result, sym, refl, ap, ◌∙◌, ap₂, arith}
+use Rattle.std.proofs.Common.{◌≡◌, ℕ, ◌+◌, ◌<◌, ◌≤◌, Bool, true, false, cond, ◌&&◌, leb, List, [], ◌∷◌, length, get_or, drop, Ok, Err, Result, sym, refl, ap, ◌∙◌, ap₂, arith}
 use Rattle.std.proofs.lemmas.List.{drop_more, at_drop_all}
-use Rattle.bounded.specs.Items.{room, grown}
+use Rattle.std.proofs.lemmas.Bool.{le-leb, lt-leb}
 use Rattle.terms.specs.declared.rule.Rule as kept
 use Rattle.terms.specs.declared.malformed.Malformed.{Malformed}
 use Rattle.terms.specs.declared.malformed.Malformed.TheVariants as malformed
@@ -27,25 +27,21 @@ module _ (sig : List ℕ) (rs : List kept.Rule) (i : ℕ) where
 accepted : List ℕ → List Sides → Result System Malformed
 accepted sig rules = Ok (record { arities = sig; rules = rules })
 
-module _ (sig : List ℕ) (rs before : List kept.Rule) (none : before ≡ []) where
-  room_is : (b : Bool) → b ≡ room 32 before rs → leb (length (all_sides rs)) 32 ≡ b
-  room_is b e =
-      let n : length (all_sides rs) ≡ length before + length rs = let z = ap length none in let s = length_sides rs in omega arith in
-      ap (λ k. leb k 32) n ∙ sym e
-
+module _ (sig : List ℕ) (rs : List kept.Rule) where
   reply_is : (a b : Bool) → leb (length (all_sides rs)) 32 ≡ a → all_rules sig (all_sides rs) ≡ b
       → cond (a && b) (Ok (record { arities = sig; rules = all_sides rs })) (Err malformed.System) ≡ system_reply sig (all_sides rs)
   reply_is a b p q = sym (ap₂ (λ x y. cond {A = Result System Malformed} (x && y) (Ok (record { arities = sig; rules = all_sides rs })) (Err malformed.System)) p q)
 
-  pub too_many : false ≡ room 32 before rs → Err malformed.System ≡ system_reply sig (all_sides rs)
-  too_many full = reply_is false (all_rules sig (all_sides rs)) (room_is false full) refl
+  pub too_many : 32 < length rs → Err malformed.System ≡ system_reply sig (all_sides rs)
+  too_many full = reply_is false (all_rules sig (all_sides rs)) (lt-leb _ _ (let n = length_sides rs in omega arith)) refl
 
-  pub not_rules : true ≡ room 32 before rs → false ≡ all_rules sig (all_sides rs) → Err malformed.System ≡ system_reply sig (all_sides rs)
-  not_rules fits bad = reply_is true false (room_is true fits) (sym bad)
+  few : length rs ≤ 32 → leb (length (all_sides rs)) 32 ≡ true
+  few fits = le-leb _ _ (let n = length_sides rs in omega arith)
 
-  pub made : (after : List kept.Rule) → true ≡ room 32 before rs → after ≡ grown true before rs → true ≡ all_rules sig (all_sides rs)
+  pub not_rules : length rs ≤ 32 → false ≡ all_rules sig (all_sides rs) → Err malformed.System ≡ system_reply sig (all_sides rs)
+  not_rules fits bad = reply_is true false (few fits) (sym bad)
+
+  pub made : (after : List kept.Rule) → length rs ≤ 32 → after ≡ rs → true ≡ all_rules sig (all_sides rs)
       → Ok (record { arities = sig; rules = all_sides after }) ≡ system_reply sig (all_sides rs)
   unfolding accepted
-  made after fits e good =
-      let same : after ≡ rs = e ∙ ap (λ l. l ++ rs) none in
-      ap (λ l. accepted sig (all_sides l)) same ∙ reply_is true true (room_is true fits) (sym good)
+  made after fits same good = ap (λ l. accepted sig (all_sides l)) same ∙ reply_is true true (few fits) (sym good)

@@ -1,6 +1,8 @@
 -- A rule, by the codes of its sides.
-use Rattle.std.proofs.Common.{◌≡◌, ℕ, ◌+◌, ◌<◌, ◌≤◌, true, false, ◌&&◌, ◌||◌, T, eqb, ltb, leb, List, [], ◌∷◌, ◌++◌, length, get_or, sym, refl, ap, ◌∙◌, subst, ap₂, inl, inr, arith, ltb→lt}
-use mathlib.Core.Bool.{and_assoc, or_assoc, or-false, and-true}
+use Rattle.std.proofs.Common.{◌≡◌, ℕ, ◌+◌, ◌<◌, ◌≤◌, true, false, ◌&&◌, ◌||◌, T, eqb, ltb, List, ◌++◌, length, get_or, sym, refl, ap, ◌∙◌, subst, ap₂, inl, inr, arith, ltb→lt}
+use Rattle.std.specs.Prelude.{◌==◌, nat_lt, nat_le}
+use Rattle.std.proofs.lemmas.List.Folds.{list_any-append, list_all-append}
+use mathlib.Core.Bool.{or-false, and-true}
 use Rattle.std.proofs.lemmas.Bool.{lt-ltb, le-ltb, le-leb, eq-eqb, ne_eqb, cases_eq}
 use Rattle.terms.specs.Terms.{Term, Terms, Term.var, Term.app, Terms.none, Terms.more, count, codes, codes_all, over, over_all}
 use Rattle.terms.specs.Rules.{occurs, occurs_some, bound, bound_all, headed}
@@ -8,21 +10,18 @@ use Rattle.terms.specs.Shapes.{all_within, has, covers, starts_with_symbol}
 use Rattle.terms.proofs.Booleans.{both, fst_of, snd_of, held}
 
 has-append : (c : ℕ) (xs ys : List ℕ) → has (xs ++ ys) c ≡ (has xs c || has ys c)
-has-append c [] ys = refl
-has-append c (a ∷ xs) ys = ap (λ b. eqb c a || b) (has-append c xs ys) ∙ sym (or_assoc (eqb c a) (has xs c) (has ys c))
+has-append c xs ys = list_any-append (λ d. d == c) xs ys
 
 pub covers-append : (ls xs ys : List ℕ) → covers ls (xs ++ ys) ≡ (covers ls xs && covers ls ys)
-covers-append ls [] ys = refl
-covers-append ls (a ∷ xs) ys = ap (λ b. (ltb a 32768 || has ls a) && b) (covers-append ls xs ys) ∙ sym (and_assoc (ltb a 32768 || has ls a) (covers ls xs) (covers ls ys))
+covers-append ls xs ys = list_all-append (λ c. nat_lt c 32768 || has ls c) xs ys
 
 within_append : (n : ℕ) (xs ys : List ℕ) → all_within n (xs ++ ys) ≡ (all_within n xs && all_within n ys)
-within_append n [] ys = refl
-within_append n (a ∷ xs) ys = ap (λ b. leb a n && b) (within_append n xs ys) ∙ sym (and_assoc (leb a n) (all_within n xs) (all_within n ys))
+within_append n xs ys = list_all-append (λ x. nat_le x n) xs ys
 
-shifted : (v w : ℕ) → eqb v w ≡ eqb (32768 + v) (32768 + w)
+shifted : (v w : ℕ) → eqb v w ≡ eqb (32768 + w) (32768 + v)
 shifted v w = elim (cases_eq v w) [
-  | inl e ↦ eq-eqb v w e ∙ sym (eq-eqb (32768 + v) (32768 + w) (ap (λ x. 32768 + x) e))
-  | inr n ↦ ne_eqb v w n ∙ sym (ne_eqb (32768 + v) (32768 + w) (λ e. n (omega arith)))
+  | inl e ↦ eq-eqb v w e ∙ sym (eq-eqb (32768 + w) (32768 + v) (ap (λ x. 32768 + x) (sym e)))
+  | inr n ↦ ne_eqb v w n ∙ sym (ne_eqb (32768 + w) (32768 + v) (λ e. n (omega arith)))
 ]
 
 module _ (sig : List ℕ) (few : length sig ≤ 32768) where
@@ -37,10 +36,10 @@ module _ (sig : List ℕ) (few : length sig ≤ 32768) where
 
   mutual
     occurs_codes : (t : Term) (v : ℕ) → T (over sig t) → occurs v t ≡ has (codes t) (32768 + v)
-    occurs_codes (var w) v h = shifted v w ∙ sym (or-false (eqb (32768 + v) (32768 + w)))
+    occurs_codes (var w) v h = shifted v w ∙ sym (or-false (eqb (32768 + w) (32768 + v)))
     occurs_codes (app f ts) v h =
         let lt = symbol f ts h in
-        let apart : eqb (32768 + v) f ≡ false = ne_eqb (32768 + v) f (λ e. omega arith) in
+        let apart : eqb f (32768 + v) ≡ false = ne_eqb f (32768 + v) (λ e. omega arith) in
         occurs_codes_all ts v (args f ts h) ∙ ap (λ b. b || has (codes_all ts) (32768 + v)) (sym apart)
 
     occurs_codes_all : (ts : Terms) (v : ℕ) → T (over_all sig ts) → occurs_some v ts ≡ has (codes_all ts) (32768 + v)

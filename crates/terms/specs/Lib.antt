@@ -10,3 +10,4 @@ pub mod Models
 pub mod Systems
 pub mod Replies
 pub mod Laws
+pub mod Kinds

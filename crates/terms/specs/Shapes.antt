@@ -1,26 +1,24 @@
 -- When arities are a signature, and codes the sides of a rule, within the limits.
-use Rattle.std.specs.Prelude.{ℕ, ◌+◌, Bool, true, false, ◌&&◌, ◌||◌, List, [], ◌∷◌, length, ◌==◌, nat_le, nat_lt}
+use Rattle.std.specs.Prelude.{ℕ, ◌+◌, Bool, false, ◌&&◌, ◌||◌, List, [], ◌∷◌, length, ◌==◌, nat_le, nat_lt}
+use Rattle.std.specs.List.{list_all, list_any}
 use Rattle.terms.specs.Limits.{most_symbols, most_arguments, most_side, variables}
 use Rattle.terms.specs.Rules.{Rule}
 use Rattle.terms.specs.Codes.{is_term, term_of}
 
 -- whether each number is at most a bound
 abbrev pub all_within : ℕ → List ℕ → Bool
-all_within most [] = true
-all_within most (n ∷ ns) = nat_le n most && all_within most ns
+all_within most ns = list_all (λ n. nat_le n most) ns
 
 abbrev pub is_signature : List ℕ → Bool
 is_signature arities = nat_le (length arities) most_symbols && all_within most_arguments arities
 
 -- whether a code is among codes
 abbrev pub has : List ℕ → ℕ → Bool
-has [] c = false
-has (d ∷ ds) c = c == d || has ds c
+has ds c = list_any (λ d. d == c) ds
 
 -- whether each variable code of the second list is among the first
 abbrev pub covers : List ℕ → List ℕ → Bool
-covers ls [] = true
-covers ls (c ∷ cs) = (nat_lt c 32768 || has ls c) && covers ls cs
+covers ls cs = list_all (λ c. nat_lt c 32768 || has ls c) cs
 
 -- whether the first code is a symbol's
 abbrev pub starts_with_symbol : List ℕ → Bool

@@ -2,15 +2,19 @@
 // on codes, and their contracts tie the two (specs/Laws.antt).
 #![tactic(auto)]
 
+pub mod code;
 pub mod malformed;
 pub mod rule;
 pub mod signature;
 pub mod system;
 
+pub use code::Code;
 pub use malformed::Malformed;
 pub use rule::{Rule, has_code};
 pub use signature::Signature;
 pub use system::System;
+
+pub const VARIABLES: u16 = 8;
 
 // From this code on a code is a variable's.
 pub const FIRST_VARIABLE: u16 = 32768;

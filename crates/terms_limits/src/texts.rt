@@ -1,17 +1,15 @@
 // How a try is printed.
+use std::fmt::Display;
 use std::io;
 use terms::Malformed;
 
-pub fn say_made(rt: &HostRuntime, what: &str, fault: Option<Malformed>) -> io::Result<()> {
-    match fault {
-        None => println!(rt; "{what}: accepted"),
-        Some(fault) => {
-            let refusal = fault.refusal();
-            println!(rt; "{what}: {refusal}")
-        }
-    }
+pub fn say<T: Display + Drop>(rt: &HostRuntime, what: &str, answer: T) -> io::Result<()> {
+    println!(rt; "{what}: {answer}")
 }
 
-pub fn say_test(rt: &HostRuntime, what: &str, answer: bool) -> io::Result<()> {
-    println!(rt; "{what}: {answer}")
+pub fn say_made(rt: &HostRuntime, what: &str, fault: Option<Malformed>) -> io::Result<()> {
+    match fault {
+        None => say(rt, what, "accepted"),
+        Some(fault) => say(rt, what, fault),
+    }
 }

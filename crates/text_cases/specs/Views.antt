@@ -1,19 +1,17 @@
 -- The cases of the code, as the definitions have them.
-use Rattle.std.specs.Prelude.{List, [], ◌∷◌}
-use Rattle.bounded.specs.Items.{items}
+use Rattle.std.specs.Prelude.{List, map}
+use Rattle.worked.specs.Views as on_codes
 use Rattle.text_cases.specs.declared.list.Case as held
-use Rattle.text_cases.specs.declared.list.Question as asked
-use Rattle.text_cases.specs.declared.list.Question.TheVariants as question
-use Rattle.text_cases.specs.Cases.{Question, Question.term, Question.match, Question.rule_text, Case}
+use Rattle.text_cases.specs.declared.question.Question as code
+use Rattle.text_cases.specs.declared.question.Question.TheVariants as question
+use Rattle.text_cases.specs.Cases.{Question, Question.asked, Question.rule_text, Case}
 
-abbrev pub question_of : asked.Question → Question
-question_of (question.IsTerm cs) = term (items cs)
-question_of (question.Matches pattern cs) = match (items pattern) (items cs)
-question_of (question.RuleText text) = rule_text (items text)
+abbrev pub question_of : code.Question → Question
+question_of (question.OnCodes q) = asked (on_codes.question_of q)
+question_of (question.RuleText text) = rule_text text.now
 
 abbrev pub case_of : held.Case → Case
 case_of c = record { question = question_of c.question; expected = c.expected }
 
 abbrev pub cases_of : List held.Case → List Case
-cases_of [] = []
-cases_of (c ∷ cs) = case_of c ∷ cases_of cs
+cases_of cs = map case_of cs

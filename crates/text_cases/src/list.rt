@@ -1,29 +1,11 @@
-// The list of worked cases. Over addition: add, z and s are numbered 0, 1 and 2, the variables a and b 0 and 1.
-ghost use Rattle.std.specs.Prelude.{◌≡◌, ◌≤◌, length};
-ghost use Rattle.bounded.specs.Items.{items};
-ghost use Rattle.refusals.specs.declared.Layer.TheVariants.{Rules};
-ghost use Rattle.text_cases.specs.declared.list.Answer.TheVariants.{Refused};
-ghost use Rattle.text_cases.specs.Cases.{worked, Question.term, Question.match, Question.rule_text};
+// The list: the cases on codes, and one on a text.
+ghost use Rattle.std.specs.Prelude.{◌≡◌};
+ghost use Rattle.worked.specs.Views as on_codes;
+ghost use Rattle.text_cases.specs.Cases.{taken_in, worked};
 ghost use Rattle.text_cases.specs.Views.{case_of, cases_of};
 
-use bounded::ArrayVec;
+use crate::question::{Answer, Question};
 use refusals::{Layer, Refusal};
-
-#[derive(Clone, Copy)]
-pub enum Question {
-    IsTerm(ArrayVec<u16, 8>),
-    // Does the first match the second at its root?
-    Matches(ArrayVec<u16, 8>, ArrayVec<u16, 8>),
-    RuleText(ArrayVec<u8, 32>),
-}
-
-#[derive(Clone, Copy, PartialEq, Eq, Debug)]
-pub enum Answer {
-    Yes,
-    No,
-    Accepted,
-    Refused(Refusal),
-}
 
 #[derive(Clone, Copy)]
 pub struct Case {
@@ -31,68 +13,36 @@ pub struct Case {
     pub expected: Answer,
 }
 
-fn bytes(text: &[u8]) -> ArrayVec<u8, 32>
-    requires { length text.now ≤ 32 }
-    ensures { items result ≡ text.now }
-{
-    let mut kept = ArrayVec::new(0);
-    let _ = kept.extend(text);
-    kept
-}
+impl From<worked::Case> for Case {
+    ghost from_gives = { λ case made. case_of made ≡ taken_in (on_codes.case_of case) };
 
-fn codes(list: &[u16]) -> ArrayVec<u16, 8>
-    requires { length list.now ≤ 8 }
-    ensures { items result ≡ list.now }
-{
-    let mut kept = ArrayVec::new(0);
-    let _ = kept.extend(list);
-    kept
-}
-
-fn term_case(list: &[u16], expected: Answer) -> Case
-    requires { length list.now ≤ 8 }
-    ensures { case_of result ≡ record { question = term list.now; expected = expected } }
-{
-    Case {
-        question: Question::IsTerm(codes(list)),
-        expected,
-    }
-}
-
-fn match_case(pattern: &[u16], subject: &[u16], expected: Answer) -> Case
-    requires { (length pattern.now ≤ 8) × (length subject.now ≤ 8) }
-    ensures { case_of result ≡ record { question = match pattern.now subject.now; expected = expected } }
-{
-    Case {
-        question: Question::Matches(codes(pattern), codes(subject)),
-        expected,
-    }
-}
-
-fn text_case(text: &[u8], number: u16, place: usize) -> Case
-    requires { length text.now ≤ 32 }
-    ensures { case_of result ≡ record { question = rule_text text.now; expected = Refused (record { number = number; layer = Rules; place = place }) } }
-{
-    Case {
-        question: Question::RuleText(bytes(text)),
-        expected: Answer::Refused(Refusal {
-            number,
-            layer: Layer::Rules,
-            place,
-        }),
+    fn from(case: worked::Case) -> Case {
+        Case {
+            question: Question::OnCodes(case.question),
+            expected: Answer::from(case.expected),
+        }
     }
 }
 
 pub fn worked_cases() -> [Case; 7]
     ensures { cases_of result ≡ worked }
 {
+    let [a, b, c, d, e, f] = worked::worked_cases();
+    let text = Case {
+        question: Question::RuleText(b"(VAR a)(RULES a -> a)"),
+        expected: Answer::Refused(Refusal {
+            number: 5,
+            layer: Layer::Rules,
+            place: 16,
+        }),
+    };
     [
-        term_case(&[0, 2, 1, 1], Answer::Yes),
-        term_case(&[0, 2, 1], Answer::No),
-        term_case(&[1, 1], Answer::No),
-        term_case(&[], Answer::No),
-        match_case(&[0, 32768, 32768], &[0, 1, 1], Answer::Yes),
-        match_case(&[0, 32768, 32768], &[0, 1, 2, 1], Answer::No),
-        text_case(b"(VAR a)(RULES a -> a)", 5, 16),
+        Case::from(a),
+        Case::from(b),
+        Case::from(c),
+        Case::from(d),
+        Case::from(e),
+        Case::from(f),
+        text,
     ]
 }

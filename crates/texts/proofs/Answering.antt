@@ -1,26 +1,21 @@
 -- What the readers answer is what the text comes to.
-use Rattle.std.proofs.Common.{◌≡◌, ℕ, T, List, Ok, Err, sym, ap, ◌∙◌, subst, arith}
+use Rattle.std.proofs.Common.{◌≡◌, ℕ, T, List, Ok, sym, ap, ◌∙◌, subst, arith}
 use Rattle.bounded.specs.Items.{items}
 use Rattle.terms.specs.Codes.{is_term}
-use Rattle.terms.proofs.Booleans.{clash}
 use Rattle.vocabulary.specs.declared.names.Names.{Names}
 use Rattle.vocabulary.specs.Vocabularies.{Vocabulary}
 use Rattle.vocabulary.specs.Naming.{Naming, naming_of}
 use Rattle.vocabulary.proofs.Fixing.{told_somes}
 use Rattle.reading.specs.Documents.{Document, Phase.ended, rule_text, start_term}
-use Rattle.reading.specs.Outcomes.{Outcome.accepted, Outcome.refused, outcome}
-use Rattle.reading.specs.Exactly.{TermTextExactly, RefusalStands}
+use Rattle.reading.specs.Outcomes.{Outcome.accepted, outcome}
+use Rattle.reading.specs.Exactly.{TermTextExactly}
 use Rattle.reading.proofs.Complete.{Complete, complete_names, settled_fixed, settled, spelled_term, spelled_rules}
 use Rattle.reading.proofs.Texts.{text_exactly, term_text_exactly}
-use Rattle.reading.proofs.Standing.{refusal_stands}
-use Rattle.texts.specs.declared.fault.Source.{Source}
-use Rattle.texts.specs.declared.fault.Source.TheVariants as sources
-use Rattle.texts.specs.declared.fault.TextFault.{TextFault}
 use Rattle.reading.specs.declared.side.Side.{Side}
-use Rattle.texts.specs.declared.document.Phase as held
-use Rattle.texts.specs.declared.document.Phase.TheVariants as phases
-use Rattle.texts.specs.Documents.{phase_of}
-use Rattle.texts.specs.Systems.{Assembles, rules_by, rules_reply, codes_in, term_by, term_reply}
+use Rattle.texts.specs.declared.parts.Phase as held
+use Rattle.texts.specs.declared.parts.Phase.TheVariants as phases
+use Rattle.texts.specs.Parts.{phase_of}
+use Rattle.texts.specs.Systems.{Assembles, codes_in, term_by, term_reply}
 
 -- a text that was accepted can be put together
 pub assembles : (bytes : List ℕ) (d : Document) → accepted d ≡ outcome rule_text bytes → Assembles d
@@ -33,28 +28,14 @@ assembles bytes d e =
     let c : Complete n = record { consistent = t.names; fixed = told_somes _ _ f.1; few_symbols = t.few_symbols; few_variables = t.few_variables } in
     record { signature = f.0; fixed = f.1; over = spelled_rules n c t.rules }
 
--- a refusal, in either text
-module _ (d : Document) (bytes : List ℕ) (e : TextFault) (is : refused e.flaw e.at ≡ outcome d bytes) where
-  pub stands : RefusalStands d bytes e.flaw e.at
-  stands = refusal_stands d bytes e.flaw e.at (sym is)
-
-  fault_is : (s : Source) → e.source ≡ s → e ≡ record { source = s; flaw = e.flaw; at = e.at }
-  fault_is s h = ap (λ x. record { source = x; flaw = e.flaw; at = e.at }) h
-
-  pub rules_refused : d ≡ rule_text → e.source ≡ sources.Rules → Err e ≡ rules_reply bytes
-  rules_refused q h = ap Err (fault_is sources.Rules h) ∙ ap rules_by is ∙ ap (λ x. rules_by (outcome x bytes)) q
-
-  pub term_refused : (v : Vocabulary) → d ≡ start_term v → e.source ≡ sources.Term → Err e ≡ term_reply v bytes
-  term_refused v q h = ap Err (fault_is sources.Term h) ∙ ap term_by is ∙ ap (λ x. term_by (outcome x bytes)) q
-
 ended_codes : (p : held.Phase) (s : Side) (cs : List ℕ) → phase_of p s ≡ ended cs → items s.codes ≡ cs
-ended_codes (phases.Bracket k) s cs e = clash (cc)
-ended_codes (phases.Keyword k) s cs e = clash (cc)
-ended_codes phases.Variable s cs e = clash (cc)
-ended_codes phases.Rule s cs e = clash (cc)
-ended_codes (phases.Arrow l) s cs e = clash (cc)
-ended_codes (phases.Inside p) s cs e = clash (cc)
-ended_codes phases.Closed s cs e = clash (cc)
+ended_codes (phases.Bracket k) s cs e = cc
+ended_codes (phases.Keyword k) s cs e = cc
+ended_codes phases.Variable s cs e = cc
+ended_codes phases.Rule s cs e = cc
+ended_codes (phases.Arrow l) s cs e = cc
+ended_codes (phases.Inside p) s cs e = cc
+ended_codes phases.Closed s cs e = cc
 ended_codes phases.Ended s cs e = cc
 
 module _ (x : Names) (bytes : List ℕ) where

@@ -1,4 +1,4 @@
-pub mod Turning
+pub mod Keeping
 pub mod Reading
 pub mod Assembling
 pub mod Answering

@@ -1,3 +1,4 @@
+pub mod Parts
 pub mod Documents
 pub mod Faults
 pub mod Readings

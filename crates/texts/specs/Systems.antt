@@ -1,7 +1,6 @@
 -- What rule texts and start terms are read as.
-use Rattle.std.specs.Prelude.{◌≡◌, ℕ, Bool, true, ◌&&◌, T, List, [], ◌∷◌, Some, Ok, Err, Result}
+use Rattle.std.specs.Prelude.{◌≡◌, ℕ, T, List, [], Some, Ok, Err, Result}
 use Rattle.terms.specs.Codes.{is_term}
-use Rattle.terms.specs.Shapes.{is_proper}
 use Rattle.terms.specs.Models.{Sides, all_rules}
 use Rattle.terms.specs.Systems.{system_of}
 use Rattle.vocabulary.specs.Vocabularies.{Vocabulary, fixed_arities}
@@ -12,11 +11,6 @@ use Rattle.reading.specs.Exactly.{RefusalStands}
 use Rattle.texts.specs.declared.fault.Source.TheVariants as sources
 use Rattle.texts.specs.declared.fault.TextFault.{TextFault}
 use Rattle.texts.specs.declared.named_system.NamedSystem.{NamedSystem}
-
--- whether all could be rules under some signature
-abbrev pub all_proper : List Sides → Bool
-all_proper [] = true
-all_proper (s ∷ ss) = is_proper s.left s.right && all_proper ss
 
 -- every arity is fixed, and the rules are rules over the signature so made
 pub record Assembles (d : Document) : Type 0 where

@@ -1,36 +1,17 @@
 // A text as far as it is read.
-use bounded::ArrayVec;
-use reading::{Block, Role, Side};
-use vocabulary::Vocabulary;
+ghost use Rattle.bounded.specs.Items.{items};
+ghost use Rattle.vocabulary.specs.Models.{vocabulary_of};
+ghost use Rattle.reading.specs.Holding.{Held, Held-prop};
+ghost use Rattle.texts.specs.Parts.{rules_of, phase_of};
+
+use crate::parts::{Parts, Phase};
 
 mod calls;
-
-// The codes of a rule's sides.
-#[derive(Clone, Copy)]
-pub(crate) struct RuleCodes {
-    pub left: ArrayVec<u16, 32>,
-    pub right: ArrayVec<u16, 32>,
-}
-
-// What is awaited: a block's bracket or its word, a variable, a rule, the arrow behind a left side, more of a term, or
-// nothing more, behind a rule text or a start term.
-#[derive(Clone, Copy)]
-pub(crate) enum Phase {
-    Bracket(Block),
-    Keyword(Block),
-    Variable,
-    Rule,
-    Arrow(ArrayVec<u16, 32>),
-    Inside(Role),
-    Closed,
-    Ended,
-}
 
 // One document reads both: a start term is a text whose names are known.
 #[derive(Drop)]
 pub(crate) struct Document {
-    pub vocabulary: Vocabulary,
-    pub rules: ArrayVec<RuleCodes, 32>,
-    pub side: Side,
+    pub parts: Parts,
     pub phase: Phase,
+    ghost held: { Held (vocabulary_of parts.vocabulary) (rules_of (items parts.rules)) (phase_of phase parts.side) } by { Held-prop (vocabulary_of parts.vocabulary) (rules_of (items parts.rules)) (phase_of phase parts.side) },
 }

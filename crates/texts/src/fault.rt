@@ -1,8 +1,10 @@
 // Why a text is refused.
-ghost use Rattle.std.specs.Prelude.{◌≡◌};
+ghost use Rattle.std.specs.Prelude.{◌≡◌, Some};
+ghost use Rattle.refusals.specs.Lines.{line};
 ghost use Rattle.texts.specs.Faults.{text_refusal};
 
 use refusals::{Layer, Refusal};
+use std::fmt;
 use vocabulary::Flaw;
 
 // Which of the two texts it is.
@@ -20,18 +22,26 @@ pub struct TextFault {
     pub at: usize,
 }
 
-impl TextFault {
-    pub fn refusal(&self) -> Refusal
-        ensures { result ≡ text_refusal self.now }
-    {
-        let layer = match self.source {
+impl From<TextFault> for Refusal {
+    ghost from_gives = { λ fault refusal. refusal ≡ text_refusal fault };
+
+    fn from(fault: TextFault) -> Refusal {
+        let layer = match fault.source {
             Source::Rules => Layer::Rules,
             Source::Term => Layer::Term,
         };
         Refusal {
-            number: self.flaw.number(),
+            number: fault.flaw.number(),
             layer,
-            place: self.at,
+            place: fault.at,
         }
+    }
+}
+
+impl fmt::Display for TextFault {
+    ghost output = { λ fault. Some (line (text_refusal fault)) };
+
+    fn fmt<W: fmt::Write>(&self, f: &mut fmt::Formatter<W>) -> fmt::Result {
+        Refusal::from(*self).fmt(f)
     }
 }

@@ -4,6 +4,7 @@
 mod document;
 pub mod fault;
 pub mod named_system;
+mod parts;
 mod reader;
 
 pub use fault::{Source, TextFault};

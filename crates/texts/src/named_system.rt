@@ -1,6 +1,5 @@
 // A system with the names of its symbols and variables.
-ghost use Rattle.std.specs.Prelude.{T};
-ghost use Rattle.std.specs.Str.{bytes_eq};
+ghost use Rattle.std.specs.Prelude.{◌≡◌};
 ghost use Rattle.terms.specs.Systems.{signature_of};
 ghost use Rattle.vocabulary.specs.Naming.{naming_of};
 
@@ -16,5 +15,5 @@ pub use calls::{read_rules, read_term};
 pub struct NamedSystem {
     pub system: System,
     pub names: Names,
-    ghost agree: { T (bytes_eq (signature_of system) (naming_of names).signature) },
+    ghost agree: { signature_of system ≡ (naming_of names).signature },
 }

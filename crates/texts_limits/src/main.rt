@@ -4,18 +4,12 @@
 
 mod escapes;
 
-use bounded::ArrayVec;
 use escapes::unescaped;
 use printing::print_term;
 use std::io;
 use std::io::Write;
-use texts::{NamedSystem, TextFault, read_rules, read_term};
+use texts::{NamedSystem, read_rules, read_term};
 use vocabulary::Names;
-
-fn print_fault(rt: &HostRuntime, fault: TextFault) -> io::Result<()> {
-    let refusal = fault.refusal();
-    println!(rt; "{refusal}")
-}
 
 fn print_system(rt: &HostRuntime, text: &NamedSystem) -> io::Result<()> {
     let rules = text.system.rules().len();
@@ -27,33 +21,33 @@ fn print_system(rt: &HostRuntime, text: &NamedSystem) -> io::Result<()> {
     println!(rt; "")
 }
 
+fn print_codes(rt: &HostRuntime, codes: &[u16]) -> io::Result<()> {
+    for code in codes {
+        print!(rt; " {code}")?;
+    }
+    Ok(())
+}
+
 // The codes of each rule, to show how names were numbered.
 fn print_rules(rt: &HostRuntime, text: &NamedSystem) -> io::Result<()> {
     for rule in text.system.rules() {
         print!(rt; " ")?;
-        for code in rule.left() {
-            print!(rt; " {code}")?;
-        }
+        print_codes(rt, rule.left())?;
         print!(rt; " ->")?;
-        for code in rule.right() {
-            print!(rt; " {code}")?;
-        }
+        print_codes(rt, rule.right())?;
         println!(rt; "")?;
     }
     Ok(())
 }
 
-fn print_codes(rt: &HostRuntime, names: &Names, codes: &ArrayVec<u16, 1024>) -> io::Result<()> {
+fn print_named(rt: &HostRuntime, names: &Names, codes: &[u16]) -> io::Result<()> {
     let mut text = vec![in rt.alloc(); 0u8; 18_432]?;
-    match print_term(names, codes.as_slice(), &mut text) {
+    match print_term(names, codes, &mut text) {
         Ok(len) => {
             rt.stdout().write_all(&text[0..len])?;
             println!(rt; "")
         }
-        Err(fault) => {
-            let refusal = fault.refusal();
-            println!(rt; "{refusal}")
-        }
+        Err(fault) => println!(rt; "{fault}"),
     }
 }
 
@@ -65,7 +59,7 @@ fn answer_rules(rt: &HostRuntime, text: &[u8], last: &mut Option<NamedSystem>) -
             *last = Some(named);
             Ok(())
         }
-        Err(fault) => print_fault(rt, fault),
+        Err(fault) => println!(rt; "{fault}"),
     }
 }
 
@@ -74,8 +68,8 @@ fn answer_term(rt: &HostRuntime, text: &[u8], last: &Option<NamedSystem>) -> io:
         return println!(rt; "no rules");
     };
     match read_term(&named.names, text) {
-        Ok(codes) => print_codes(rt, &named.names, &codes),
-        Err(fault) => print_fault(rt, fault),
+        Ok(codes) => print_named(rt, &named.names, codes.as_slice()),
+        Err(fault) => println!(rt; "{fault}"),
     }
 }
 

@@ -5,7 +5,7 @@ use Rattle.std.proofs.lemmas.Bool.{cond-true, cond-false, and_from, and_parts, e
 use Rattle.tokens.specs.Bytes.{blank, letter, all_letters, run}
 use Rattle.tokens.specs.Tokens.{Word, Word.arrow, Word.named, Word.long, Tok, name_or_long, is_arrow, mark, token, extra, lex}
 use Rattle.tokens.specs.Cuts.{all_blank, Stops, Spelled, Spelled.open_bracket, Spelled.close_bracket, Spelled.a_comma, Spelled.an_arrow, Spelled.a_name, Spelled.a_long_name, Spelled.a_stray, Cut, Cut.at_end, Cut.token_next, Tokenized}
-use Rattle.tokens.proofs.Lexes.{lex_skip, run_letters}
+use Rattle.tokens.proofs.Lexes.{lex_skip, run_letters, solid_run}
 
 -- blanks are passed
 lex_gap : (at : ℕ) (gap bs : List ℕ) → all_blank gap → lex at 0 (gap ++ bs) ≡ lex (at + length gap) 0 bs
@@ -15,8 +15,7 @@ lex_gap at (b ∷ gap) bs h =
     cond-true (blank b) _ _ h.0 ∙ lex_gap (suc at) gap bs h.1 ∙ ap (λ n. lex n 0 bs) e
 
 lex_over : (at : ℕ) (gap : List ℕ) → all_blank gap → lex at 0 gap ≡ []
-lex_over at [] h = refl
-lex_over at (b ∷ gap) h = cond-true (blank b) _ _ h.0 ∙ lex_over (suc at) gap h.1
+lex_over at gap h = ap (lex at 0) (sym (append-nil gap)) ∙ lex_gap at gap [] h
 
 -- a run of letters ends where the letters do
 run_all : (n rest : List ℕ) → all_letters n ≡ true → Stops rest → run letter (n ++ rest) ≡ length n
@@ -165,17 +164,6 @@ blanks_run (b ∷ bs) = go (blanks_run bs) (blank b) refl
     go ih true e = (e, ih)
     go ih false e = tt
 
-solid-run : (bs : List ℕ) (b : ℕ) (rs : List ℕ) → drop (run blank bs) bs ≡ b ∷ rs → blank b ≡ false
-solid-run [] b rs e = absurd (nothing e)
-  where
-    nothing : [] ≡ b ∷ rs → ⊥
-    nothing q = let z : ◌≡◌ {A = ℕ} 0 1 = cc in omega arith
-solid-run (c ∷ bs) b rs e = go (solid-run bs b rs) (blank c) refl e
-  where
-    go : (drop (run blank bs) bs ≡ b ∷ rs → blank b ≡ false) → (t : Bool) → blank c ≡ t → drop (cond t (suc (run blank bs)) 0) (c ∷ bs) ≡ b ∷ rs → blank b ≡ false
-    go ih true f q = ih q
-    go ih false f q = let x : c ≡ b = cc in ap blank (sym x) ∙ f
-
 cut_from : (n at : ℕ) (bs : List ℕ) → length bs ≤ n → (ts : List Tok) × Cut at bs ts
 cut_from zero at [] h = ([], at_end tt)
 cut_from zero at (b ∷ bs) h = let z : ⊥ = omega arith in absurd z
@@ -197,7 +185,7 @@ cut_from (suc n) at bs h = go (λ k l f. cut_from n k l f) (drop (run blank bs) 
         let l3 = length-drop k rs in
         let ih = rec (at + length g + length u) rest (omega arith) in
         let ts : List Tok = record { at = at + length g; word = token b rs } ∷ ih.0 in
-        (ts, subst (λ l. Cut at l ts) whole (token_next g (blanks_run bs) (spelled b rs (solid-run bs b rs e)) ih.1))
+        (ts, subst (λ l. Cut at l ts) whole (token_next g (blanks_run bs) (spelled b rs (solid_run bs b rs e)) ih.1))
 
 pub tokenized : (text : List ℕ) → Tokenized text
 tokenized text =

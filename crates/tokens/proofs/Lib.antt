@@ -1,3 +1,3 @@
 pub mod Lexes
-pub mod Scans
 pub mod Cuts
+pub mod Names

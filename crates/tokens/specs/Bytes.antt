@@ -1,5 +1,7 @@
 -- Which bytes separate tokens, and which make names.
-use Rattle.std.specs.Prelude.{ℕ, suc, Bool, true, cond, ◌&&◌, ◌||◌, List, [], ◌∷◌, length, ◌==◌, nat_le, nat_lt}
+use Rattle.std.specs.Prelude.{ℕ, suc, Bool, cond, ◌&&◌, ◌||◌, List, [], ◌∷◌, length, ◌==◌, nat_le, nat_lt}
+use Rattle.std.specs.Char.{is_ascii_alphanumeric}
+use Rattle.std.specs.List.{list_all}
 
 -- space, tab, CR and LF
 abbrev pub blank : ℕ → Bool
@@ -7,11 +9,10 @@ blank b = b == 32 || (b == 9 || (b == 13 || b == 10))
 
 -- letters, digits, underscore and apostrophe
 abbrev pub letter : ℕ → Bool
-letter b = (nat_le 97 b && nat_le b 122) || ((nat_le 65 b && nat_le b 90) || ((nat_le 48 b && nat_le b 57) || (b == 95 || b == 39)))
+letter b = is_ascii_alphanumeric b || (b == 95 || b == 39)
 
 abbrev pub all_letters : List ℕ → Bool
-all_letters [] = true
-all_letters (b ∷ bs) = letter b && all_letters bs
+all_letters = list_all letter
 
 -- a name has 1 to 16 letters
 abbrev pub is_name : List ℕ → Bool

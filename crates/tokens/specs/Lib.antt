@@ -1,6 +1,5 @@
 -- Tokens of a text, as a definition over its bytes.
 pub mod Bytes
-pub mod Classes
 pub mod Tokens
 pub mod Names
 pub mod Lexing

@@ -1,7 +1,6 @@
 // The tokens of rule texts and start terms: brackets, commas, arrows and names, each with its byte offset.
 #![tactic(auto)]
 
-mod class;
 pub mod lexer;
 pub mod name;
 pub mod token;

@@ -2,14 +2,13 @@
 // rules and symbols, the number of steps, the final term by name. A refusal prints only its line.
 #![tactic(auto)]
 
-mod follow;
 mod opening;
 
-use follow::{End, Trip, follow};
 use opening::{Opened, open};
 use printing::print_term;
 use std::io::{ErrorKind, Read, Write};
 use std::{fs, io};
+use trips::{End, Trip, follow};
 use vocabulary::Names;
 
 // Only this many bytes of a file count.
@@ -25,12 +24,8 @@ fn read_file(rt: &HostRuntime, path: &str) -> io::Result<Vec<u8>> {
             file.take(MOST_BYTES).read_to_end(&mut text)?;
             Ok(text)
         }
-        Err(e) => {
-            if e.kind() == ErrorKind::NotFound {
-                return Ok(text);
-            }
-            Err(e)
-        }
+        Err(e) if e.kind() == ErrorKind::NotFound => Ok(text),
+        Err(e) => Err(e),
     }
 }
 
@@ -42,10 +37,7 @@ fn print_text(rt: &HostRuntime, names: &Names, codes: &[u16]) -> io::Result<()> 
             rt.stdout().write_all(&text[0..len])?;
             println!(rt; "")
         }
-        Err(fault) => {
-            let refusal = fault.refusal();
-            println!(rt; "{refusal}")
-        }
+        Err(fault) => println!(rt; "{fault}"),
     }
 }
 
@@ -68,9 +60,6 @@ fn main(rt: HostRuntime) -> io::Result<()> {
     let start = read_file(&rt, "start.term")?;
     match open(&rules, &start) {
         Ok(opened) => run(&rt, opened),
-        Err(fault) => {
-            let refusal = fault.refusal();
-            println!(rt; "{refusal}")
-        }
+        Err(fault) => println!(rt; "{fault}"),
     }
 }

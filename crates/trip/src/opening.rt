@@ -20,11 +20,9 @@ pub fn open(rules: &[u8], start: &[u8]) -> Result<Opened, TextFault>
 {
     let text = read_rules(rules)?;
     let codes = read_term(&text.names, start)?;
-    match Subject::new(text.system, codes.as_slice()) {
-        Ok(subject) => Ok(Opened {
-            names: text.names,
-            subject,
-        }),
-        Err(_) => unreachable(),
-    }
+    let subject = Subject::new(text.system, codes.as_slice()).unwrap();
+    Ok(Opened {
+        names: text.names,
+        subject,
+    })
 }

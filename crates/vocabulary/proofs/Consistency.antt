@@ -1,28 +1,23 @@
 -- In a consistent vocabulary each name has one code and each code one name, and growth keeps it consistent.
-use Rattle.std.proofs.Common.{◌≡◌, ℕ, zero, suc, ◌+◌, ◌-◌, ◌<◌, ◌≤◌, Bool, true, false, cond, ◌&&◌, T, ltb, leb, List, [], ◌∷◌, ◌++◌, length, get_or, set, Some, None, Option, sym, refl, ap, ◌∙◌, subst, inl, inr, arith, eqb→eq, leb→le}
+use Rattle.std.proofs.Common.{◌≡◌, ℕ, zero, suc, ◌+◌, ◌-◌, ◌<◌, ◌≤◌, Bool, true, false, cond, T, ltb, leb, List, [], ◌∷◌, ◌++◌, length, get_or, set, Some, None, Option, sym, refl, ap, ◌∙◌, subst, inl, inr, arith, eqb→eq, leb→le}
 use Rattle.std.specs.Str.{bytes_eq}
 use Rattle.std.proofs.lemmas.Slice.Eq.{bytes_eq-Decides}
 use Rattle.std.proofs.lemmas.Bool.{cond-true, cond-false, lt-ltb, le-ltb, ltb-false, eq-eqb, le-leb}
-use Rattle.terms.proofs.Booleans.{clash, fst_of, snd_of}
+use Rattle.std.specs.List.{slice_get}
+use Rattle.std.proofs.lemmas.Option.{slice_get_within, get_or_from_slice_get, slice_get-get_or}
+use Rattle.terms.proofs.Booleans.{clash, both, held, fst_of, snd_of}
 use Rattle.vocabulary.specs.Vocabularies.{Vocabulary, found, var_or, code_of, arity_of, with_symbol, with_arity, with_variable, is_number, all_coded, all_small, Consistent}
-use Rattle.vocabulary.specs.Replies.{entry, name_at}
+use Rattle.vocabulary.specs.Replies.{name_at}
 use Rattle.vocabulary.specs.Laws.{Names, Names.variable, Names.symbol, CodeExactly, NameExactly, Keeps}
 use Rattle.vocabulary.proofs.Founds.{found_more, found_new, code_is}
 use Rattle.vocabulary.proofs.Growing.{grows_symbol, grows_arity, same_code, even_symbol, even_arity}
-
-true_T : {b : Bool} → b ≡ true → T b
-true_T e = subst T (sym e) tt
-
-and_T : (a b : Bool) → T a → T b → T (a && b)
-and_T true b x y = y
-and_T false b x y = x
 
 number_is : (o : Option ℕ) (k : ℕ) → T (is_number o k) → o ≡ Some k
 number_is None k h = absurd h
 number_is (Some a) k h = ap Some (sym (eqb→eq k a h))
 
 is_number_T : (o : Option ℕ) (k : ℕ) → o ≡ Some k → T (is_number o k)
-is_number_T o k e = subst (λ x. T (is_number x k)) (sym e) (true_T (eq-eqb k k refl))
+is_number_T o k e = subst (λ x. T (is_number x k)) (sym e) (held _ (eq-eqb k k refl))
 
 module _ (v : Vocabulary) where
   -- each name stands for its number
@@ -45,21 +40,17 @@ module _ (v : Vocabulary) where
   pub code_exactly : Consistent v → (n : List ℕ) (r : Option ℕ) → r ≡ code_of v n → CodeExactly v n r
   code_exactly s n r e c = (λ q. code_named n c (sym e ∙ q), λ h. e ∙ named_code s n c h)
 
-entry_is : (xs : List (List ℕ)) (i : ℕ) (n : List ℕ) → entry xs i ≡ Some n → (i < length xs) × (get_or xs i [] ≡ n)
-entry_is [] i n e = clash (cc)
-entry_is (x ∷ xs) zero n e = (omega arith, (let z : x ≡ n = cc in z))
-entry_is (x ∷ xs) (suc i) n e = let h = entry_is xs i n e in let a = h.0 in (omega arith, h.1)
+entry_is : (xs : List (List ℕ)) (i : ℕ) (n : List ℕ) → slice_get xs i ≡ Some n → (i < length xs) × (get_or xs i [] ≡ n)
+entry_is xs i n e = (slice_get_within xs i n e, get_or_from_slice_get xs i n [] e)
 
-entry_at : (xs : List (List ℕ)) (i : ℕ) (n : List ℕ) → i < length xs → get_or xs i [] ≡ n → entry xs i ≡ Some n
-entry_at [] i n h e = let z : ⊥ = omega arith in absurd z
-entry_at (x ∷ xs) zero n h e = ap Some e
-entry_at (x ∷ xs) (suc i) n h e = entry_at xs i n (omega arith) e
+entry_at : (xs : List (List ℕ)) (i : ℕ) (n : List ℕ) → i < length xs → get_or xs i [] ≡ n → slice_get xs i ≡ Some n
+entry_at xs i n h e = slice_get-get_or xs i [] h ∙ ap Some e
 
 module _ (v : Vocabulary) (few : length v.symbols ≤ 32768) where
   name_names : (c : ℕ) (n : List ℕ) → name_at v c ≡ Some n → Names v n c
   name_names c n e = by (ltb c 32768) refl e
     where
-      by : (b : Bool) → ltb c 32768 ≡ b → cond b (entry v.symbols c) (entry v.variables (c - 32768)) ≡ Some n → Names v n c
+      by : (b : Bool) → ltb c 32768 ≡ b → cond b (slice_get v.symbols c) (slice_get v.variables (c - 32768)) ≡ Some n → Names v n c
       by true q h = let p = entry_is v.symbols c n h in symbol c p.0 p.1
       by false q h =
           let p = entry_is v.variables (c - 32768) n h in
@@ -70,7 +61,7 @@ module _ (v : Vocabulary) (few : length v.symbols ≤ 32768) where
   names_name : (c : ℕ) (n : List ℕ) → Names v n c → name_at v c ≡ Some n
   names_name _ n (variable x h e) =
       let z : 32768 + x - 32768 ≡ x = omega arith in
-      cond-false _ _ _ (le-ltb (32768 + x) 32768 (omega arith)) ∙ ap (entry v.variables) z ∙ entry_at v.variables x n h e
+      cond-false _ _ _ (le-ltb (32768 + x) 32768 (omega arith)) ∙ ap (slice_get v.variables) z ∙ entry_at v.variables x n h e
   names_name _ n (symbol f h e) = cond-true _ _ _ (lt-ltb f 32768 (omega arith)) ∙ entry_at v.symbols f n h e
 
   pub name_exactly : (c : ℕ) (r : Option (List ℕ)) → r ≡ name_at v c → NameExactly v c r
@@ -111,26 +102,26 @@ keeps_variable v n new = record { codes = λ m c e. by m c (found 0 v.variables 
 kept_coded : (v w : Vocabulary) → Keeps v w → (k : ℕ) (ns : List (List ℕ)) → T (all_coded v k ns) → T (all_coded w k ns)
 kept_coded v w g k [] h = tt
 kept_coded v w g k (n ∷ ns) h =
-    and_T _ _ (is_number_T (code_of w n) k (g.codes n k (number_is (code_of v n) k (fst_of (is_number (code_of v n) k) _ h))))
+    both _ _ (is_number_T (code_of w n) k (g.codes n k (number_is (code_of v n) k (fst_of (is_number (code_of v n) k) _ h))))
     (kept_coded v w g (suc k) ns (snd_of (is_number (code_of v n) k) _ h))
 
 coded_append : (v : Vocabulary) (k : ℕ) (ns : List (List ℕ)) (n : List ℕ) → T (all_coded v k ns) → code_of v n ≡ Some (k + length ns) → T (all_coded v k (ns ++ n ∷ []))
-coded_append v k [] n h e = and_T _ _ (is_number_T (code_of v n) k (e ∙ ap Some (let z : k + 0 ≡ k = omega arith in z))) tt
+coded_append v k [] n h e = both _ _ (is_number_T (code_of v n) k (e ∙ ap Some (let z : k + 0 ≡ k = omega arith in z))) tt
 coded_append v k (m ∷ ns) n h e =
-    and_T _ _ (fst_of (is_number (code_of v m) k) _ h)
+    both _ _ (fst_of (is_number (code_of v m) k) _ h)
     (coded_append v (suc k) ns n (snd_of (is_number (code_of v m) k) _ h) (e ∙ ap Some (let z : k + suc (length ns) ≡ suc k + length ns = omega arith in z)))
 
 small_none : (xs : List (Option ℕ)) → T (all_small xs) → T (all_small (xs ++ None ∷ []))
 small_none [] h = tt
 small_none (None ∷ xs) h = small_none xs h
-small_none (Some k ∷ xs) h = and_T _ _ (fst_of (leb k 4) _ h) (small_none xs (snd_of (leb k 4) _ h))
+small_none (Some k ∷ xs) h = both _ _ (fst_of (leb k 4) _ h) (small_none xs (snd_of (leb k 4) _ h))
 
 small_set : (xs : List (Option ℕ)) (f k : ℕ) → k ≤ 4 → T (all_small xs) → T (all_small (set xs f (Some k)))
 small_set [] f k l h = h
-small_set (None ∷ xs) zero k l h = and_T _ _ (true_T (le-leb k 4 l)) h
-small_set (Some a ∷ xs) zero k l h = and_T _ _ (true_T (le-leb k 4 l)) (snd_of (leb a 4) _ h)
+small_set (None ∷ xs) zero k l h = both _ _ (held _ (le-leb k 4 l)) h
+small_set (Some a ∷ xs) zero k l h = both _ _ (held _ (le-leb k 4 l)) (snd_of (leb a 4) _ h)
 small_set (None ∷ xs) (suc f) k l h = small_set xs f k l h
-small_set (Some a ∷ xs) (suc f) k l h = and_T _ _ (fst_of (leb a 4) _ h) (small_set xs f k l (snd_of (leb a 4) _ h))
+small_set (Some a ∷ xs) (suc f) k l h = both _ _ (fst_of (leb a 4) _ h) (small_set xs f k l (snd_of (leb a 4) _ h))
 
 pub small_at : (xs : List (Option ℕ)) → T (all_small xs) → (f a : ℕ) → get_or xs f None ≡ Some a → a ≤ 4
 small_at [] h f a e = clash (cc)

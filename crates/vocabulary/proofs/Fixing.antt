@@ -1,16 +1,18 @@
 -- Arities that are all fixed.
-use Rattle.std.proofs.Common.{◌≡◌, ℕ, ◌+◌, ◌<◌, ◌≤◌, T, eqb, leb, List, [], ◌∷◌, ◌++◌, length, get_or, take, drop, Some, None, Option, sym, refl, ap, ◌∙◌, subst, ap₂, arith, le→leb, eqb→eq, length-take}
+use Rattle.std.proofs.Common.{◌≡◌, ℕ, ◌+◌, ◌<◌, ◌≤◌, Bool, true, false, cond, T, eqb, leb, List, [], ◌∷◌, ◌++◌, map, length, get_or, take, drop, Some, None, Ok, Err, Option, Result, sym, refl, ap, ◌∙◌, subst, ap₂, arith, le→leb, eqb→eq, length-take}
 use lib.Dec.{eqb_refl}
-use Rattle.std.proofs.lemmas.List.{take_more, drop_more, take_all, take-append-drop}
+use Rattle.std.proofs.lemmas.List.{take_more, drop_more, take_all, take-append-drop, length-map, map-append, get_or-map}
 use Rattle.std.specs.Option.{option_map}
+use Rattle.std.specs.Result.{IsOk}
+use Rattle.terms.specs.Replies.{viewed}
 use Rattle.terms.specs.Shapes.{all_within, is_signature}
 use Rattle.terms.proofs.Booleans.{both, fst_of, snd_of, clash}
-use Rattle.vocabulary.specs.Vocabularies.{all_small, fixed_arities, are_fixed}
+use Rattle.vocabulary.specs.declared.symbol.Symbol.{Symbol}
+use Rattle.vocabulary.specs.Vocabularies.{symbol_arities, all_small, fixed_arities, are_fixed}
 
 -- numbers, each as an arity that is fixed
 abbrev pub somes : List ℕ → List (Option ℕ)
-somes [] = []
-somes (n ∷ ns) = Some n ∷ somes ns
+somes = map Some
 
 pub fixed_as : (xs : List (Option ℕ)) (ns : List ℕ) → T (are_fixed xs ns) → xs ≡ somes ns
 fixed_as [] [] h = refl
@@ -41,36 +43,41 @@ pub told_fixed : (xs : List (Option ℕ)) (ns : List ℕ) → fixed_arities xs �
 told_fixed xs ns e = subst (λ l. T (are_fixed l ns)) (sym (told_somes xs ns e)) (are_somes ns)
 
 pub somes-length : (ns : List ℕ) → length (somes ns) ≡ length ns
-somes-length [] = refl
-somes-length (n ∷ ns) = let ih = somes-length ns in omega arith
+somes-length ns = length-map ns Some
 
 pub somes_small : (ns : List ℕ) → T (all_small (somes ns)) → T (all_within 4 ns)
 somes_small [] h = tt
 somes_small (n ∷ ns) h = both _ _ (fst_of (leb n 4) _ h) (somes_small ns (snd_of (leb n 4) _ h))
-
-pub somes_push : (ns : List ℕ) (n : ℕ) → somes (ns ++ n ∷ []) ≡ somes ns ++ Some n ∷ []
-somes_push [] n = refl
-somes_push (m ∷ ns) n = ap (λ l. Some m ∷ l) (somes_push ns n)
 
 -- one that is not fixed
 pub unfixed : (ns : List ℕ) (xs : List (Option ℕ)) → fixed_arities (somes ns ++ None ∷ xs) ≡ None
 unfixed [] xs = refl
 unfixed (n ∷ ns) xs = ap (option_map (λ (ks : List ℕ). n ∷ ks)) (unfixed ns xs)
 
--- a loop over the arities
-pub somes_more : (xs : List (Option ℕ)) (i : ℕ) (ns ms : List ℕ) (n : ℕ) → i < length xs → get_or xs i None ≡ Some n → take i xs ≡ somes ns → ms ≡ ns ++ n ∷ [] → take (i + 1) xs ≡ somes ms
-somes_more xs i ns ms n h e inv is = take_more xs i None h ∙ ap₂ (λ l x. l ++ x ∷ []) inv e ∙ sym (somes_push ns n) ∙ ap somes (sym is)
+-- a loop over the symbols
+module _ (ss : List Symbol) (i : ℕ) (ns : List ℕ) (inv : take i (symbol_arities ss) ≡ somes ns) where
+  module _ (x : Symbol) (inside : i < length ss) (is : x ≡ get_or ss i x) where
+    within : i < length (symbol_arities ss)
+    within = simp length-map inside
 
-pub somes_stop : (xs : List (Option ℕ)) (i : ℕ) (ns : List ℕ) → i < length xs → get_or xs i None ≡ None → take i xs ≡ somes ns → None ≡ fixed_arities xs
-somes_stop xs i ns h e inv =
-    sym (unfixed ns (drop (i + 1) xs)) ∙ ap fixed_arities (ap (λ l. l ++ None ∷ drop (i + 1) xs) (sym inv) ∙ ap (λ l. take i xs ++ l) (ap (λ x. x ∷ drop (i + 1) xs) (sym e) ∙ sym (drop_more xs i None h)) ∙ take-append-drop i xs)
+    here : get_or (symbol_arities ss) i None ≡ x.arity
+    here = get_or-map (λ (s : Symbol). s.arity) ss i x None inside ∙ ap (λ (s : Symbol). s.arity) (sym is)
 
-pub somes_end : (xs : List (Option ℕ)) (i : ℕ) (ns : List ℕ) → length xs ≤ i → take i xs ≡ somes ns → Some ns ≡ fixed_arities xs
-somes_end xs i ns h inv = sym (somes_fixed ns) ∙ ap fixed_arities (sym inv ∙ take_all i xs h)
+    pub one_more : (ms : List ℕ) (n : ℕ) → x.arity ≡ Some n → ms ≡ ns ++ n ∷ [] → take (i + 1) (symbol_arities ss) ≡ somes ms
+    one_more ms n e push = take_more (symbol_arities ss) i None within ∙ ap₂ (λ l o. l ++ o ∷ []) inv (here ∙ e) ∙ sym (map-append Some ns (n ∷ [])) ∙ ap somes (sym push)
 
--- there is room for one more
-pub somes-room : (xs : List (Option ℕ)) (i : ℕ) (ns : List ℕ) → i < length xs → length xs ≤ 32 → take i xs ≡ somes ns → length ns + 1 ≤ 32
-somes-room xs i ns h few inv = let a = ap length inv in let b = somes-length ns in let c = length-take i xs in omega arith
+    pub one_open : x.arity ≡ None → None ≡ fixed_arities (symbol_arities ss)
+    one_open e =
+        let rest = drop (i + 1) (symbol_arities ss) in
+        let whole : somes ns ++ None ∷ rest ≡ symbol_arities ss =
+        ap₂ (λ l o. l ++ o ∷ rest) (sym inv) (sym (here ∙ e)) ∙ ap (λ l. take i (symbol_arities ss) ++ l) (sym (drop_more (symbol_arities ss) i None within)) ∙ take-append-drop i (symbol_arities ss) in
+        sym (unfixed ns rest) ∙ ap fixed_arities whole
+
+    pub one_fits : length ss ≤ 32 → length ns + 1 ≤ 32
+    one_fits few = let a = ap length inv in let b = somes-length ns in let c = length-take i (symbol_arities ss) in let d = within in omega arith
+
+  pub all_closed : length ss ≤ i → Some ns ≡ fixed_arities (symbol_arities ss)
+  all_closed h = sym (somes_fixed ns) ∙ ap fixed_arities (sym inv ∙ take_all i (symbol_arities ss) (simp length-map h))
 
 -- arities that are fixed, few and small are a signature
 pub fixed_signature : (xs : List (Option ℕ)) (ns : List ℕ) → length xs ≤ 32 → T (all_small xs) → fixed_arities xs ≡ Some ns → T (is_signature ns)
@@ -78,3 +85,8 @@ fixed_signature xs ns few small e =
     let is = told_somes xs ns e in
     let l : length xs ≡ length ns = ap length is ∙ somes-length ns in
     both _ _ (le→leb (length ns) 32 (omega arith)) (somes_small ns (subst (λ l. T (all_small l)) is small))
+
+pub accepted : {X Y E : Type 0} (f : X → Y) (r : Result X E) (b : Bool) (y : Y) (e : E) → viewed f r ≡ cond b (Ok y) (Err e) → T b → IsOk r
+accepted f (Ok x) b y e h t = refl
+accepted f (Err x) true y e h t = cc
+accepted f (Err x) false y e h t = absurd t

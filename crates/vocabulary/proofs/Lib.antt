@@ -2,5 +2,5 @@ pub mod Lookups
 pub mod Founds
 pub mod Growing
 pub mod Consistency
-pub mod Calls
 pub mod Fixing
+pub mod Calls

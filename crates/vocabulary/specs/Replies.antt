@@ -1,5 +1,5 @@
 -- What the calls answer.
-use Rattle.std.specs.Prelude.{ℕ, zero, suc, ◌-◌, cond, List, [], ◌∷◌, length, is_some, Some, None, Ok, Err, Option, Result, ◌==◌, nat_le, nat_lt}
+use Rattle.std.specs.Prelude.{ℕ, ◌-◌, cond, List, length, slice_get, is_some, Some, None, Ok, Err, Option, Result, ◌==◌, nat_le, nat_lt}
 use Rattle.terms.specs.Limits.{most_symbols, most_arguments, variables}
 use Rattle.vocabulary.specs.declared.flaw.Flaw.{Flaw}
 use Rattle.vocabulary.specs.declared.flaw.Flaw.TheVariants.{Misplaced, LongName, TooMany, Arguments, LeftVariable, AbsentVariable, TooLong, UnknownName, DeclaredTwice}
@@ -17,15 +17,9 @@ flaw_number TooLong = 7
 flaw_number UnknownName = 8
 flaw_number DeclaredTwice = 9
 
--- the i-th, if there is one
-abbrev pub entry : {A : Type 0} → List A → ℕ → Option A
-entry [] i = None
-entry (x ∷ xs) zero = Some x
-entry (x ∷ xs) (suc i) = entry xs i
-
 -- the name that a code has
 abbrev pub name_at : Vocabulary → ℕ → Option (List ℕ)
-name_at v c = cond (nat_lt c 32768) (entry v.symbols c) (entry v.variables (c - 32768))
+name_at v c = cond (nat_lt c 32768) (slice_get v.symbols c) (slice_get v.variables (c - 32768))
 
 -- a ninth variable is one too many, whatever its name
 abbrev pub declare_reply : Vocabulary → List ℕ → Result (Unit {0}) Flaw

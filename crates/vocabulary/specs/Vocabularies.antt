@@ -1,20 +1,29 @@
 -- A vocabulary: the names of symbols and variables, by number, and the arities that are fixed so far.
-use Rattle.std.specs.Prelude.{◌≡◌, ℕ, suc, ◌+◌, Bool, true, false, cond, ◌&&◌, T, List, [], ◌∷◌, ◌++◌, length, Some, None, Option, ◌==◌, nat_le, slice_index_or, slice_set}
+use Rattle.std.specs.Prelude.{◌≡◌, ℕ, suc, ◌+◌, Bool, true, false, cond, ◌&&◌, T, List, [], ◌∷◌, ◌++◌, map, length, Some, None, Option, ◌==◌, nat_le, slice_index_or, slice_set}
 use Rattle.std.specs.Str.{bytes_eq}
 use Rattle.std.specs.Option.{option_map}
 use Rattle.tokens.specs.declared.name.Name.{Name}
 use Rattle.tokens.specs.Names.{name_bytes}
+use Rattle.vocabulary.specs.declared.symbol.Symbol.{Symbol}
 use Rattle.terms.specs.Limits.{most_arguments}
 
 -- names by their bytes
 abbrev pub names : List Name → List (List ℕ)
-names [] = []
-names (n ∷ ns) = name_bytes n ∷ names ns
+names = map name_bytes
+
+abbrev pub symbol_names : List Symbol → List Name
+symbol_names = map (λ (s : Symbol). s.name)
+
+abbrev pub symbol_arities : List Symbol → List (Option ℕ)
+symbol_arities = map (λ (s : Symbol). s.arity)
 
 pub record Vocabulary : Type 0 where
   pub symbols : List (List ℕ)
   pub arities : List (Option ℕ)
   pub variables : List (List ℕ)
+
+abbrev pub vocabulary : List Symbol → List Name → Vocabulary
+vocabulary ss ns = record { symbols = names (symbol_names ss); arities = symbol_arities ss; variables = names ns }
 
 -- the number of the first name that equals n, counted from k
 abbrev pub found : ℕ → List (List ℕ) → List ℕ → Option ℕ

@@ -3,10 +3,12 @@
 
 pub mod flaw;
 pub mod names;
+pub mod symbol;
 pub mod vocabulary;
 
 pub use flaw::Flaw;
 pub use names::Names;
+pub use symbol::Symbol;
 pub use vocabulary::Vocabulary;
 
 #[cfg(test)]
@@ -16,10 +18,7 @@ mod tests {
     use tokens::Name;
 
     fn name(bytes: &[u8]) -> Result<Name, Fail> {
-        match Name::new(bytes) {
-            Some(name) => Ok(name),
-            None => Err(Fail::new("no name")),
-        }
+        Name::new(bytes).ok_or_else(|| Fail::new("no name"))
     }
 
     #[test]

@@ -1,18 +1,12 @@
 // The calls. What is full refuses, and keeps what it holds.
-ghost use Rattle.std.specs.Prelude.{◌≡◌, [], ◌∷◌, length, nat_lt, slice_set};
+ghost use Rattle.std.specs.Prelude.{◌≡◌, ◌<◌, [], ◌∷◌, length, is_ok, slice_get, slice_set, MatchResult};
+ghost use Rattle.std.specs.Cmp.{on_per, on_equiv};
+ghost use Rattle.std.specs.Cmp.Lexicographic.{pointwise, lists_per, lists_equiv};
 ghost use Rattle.bounded.specs.Items.{items, room, grown, Popped};
 
-use crate::array_vec::ArrayVec;
-use std::alloc::AllocError;
+use crate::array_vec::{ArrayVec, Full};
 
-impl<T: Copy, const N: usize> Clone for ArrayVec<T, N> {
-    ghost is_clone = { λ x y. x ≡ y };
-
-    fn clone(&self) -> Result<Self, AllocError> {
-        Ok(*self)
-    }
-}
-
+#[tactic(auto, unfolding(crate::specs::Items::items))]
 impl<T: Copy, const N: usize> ArrayVec<T, N> {
     // No items; `fill` is what the unused slots hold.
     pub fn new(fill: T) -> Self
@@ -24,41 +18,49 @@ impl<T: Copy, const N: usize> ArrayVec<T, N> {
         }
     }
 
+    // The items of a slice, if there is room for all.
+    pub fn from_slice(fill: T, source: &[T]) -> Result<Self, Full>
+        ensures { MatchResult result (λ v. items v ≡ source.now) (λ _. N < length source.now) }
+    {
+        let mut vec = ArrayVec::new(fill);
+        vec.extend(source)?;
+        Ok(vec)
+    }
+
     pub fn as_slice(&self) -> &[T]
         ensures { result.now ≡ items self.now }
     {
-        let whole = &self.slots[..];
-        &whole[0..self.len]
+        &self.slots[..self.len]
     }
 
-    // One item more; false where there is no room.
-    pub fn push(&mut self, item: T) -> bool
-        ensures fits { result ≡ room N (items self.old) (item ∷ []) }
-        ensures items { items self.new ≡ grown result (items self.old) (item ∷ []) }
+    // One item more.
+    pub fn push(&mut self, item: T) -> Result<(), Full>
+        ensures fits { is_ok result ≡ room N (items self.old) (item ∷ []) }
+        ensures items { items self.new ≡ grown (is_ok result) (items self.old) (item ∷ []) }
     {
         let at = self.len;
         if at >= N {
-            return false;
+            return Err(Full {});
         }
         self.slots[at] = item;
         self.len = at + 1;
-        true
+        Ok(())
     }
 
     // All of them, or none where there is no room for all.
-    pub fn extend(&mut self, more: &[T]) -> bool
-        ensures fits { result ≡ room N (items self.old) more.now }
-        ensures items { items self.new ≡ grown result (items self.old) more.now }
+    pub fn extend(&mut self, more: &[T]) -> Result<(), Full>
+        ensures fits { is_ok result ≡ room N (items self.old) more.now }
+        ensures items { items self.new ≡ grown (is_ok result) (items self.old) more.now }
     {
         let start = self.len;
         if more.len() > N - start {
-            return false;
+            return Err(Full {});
         }
-        for (i, item) in more.iter().enumerate() {
-            self.slots[start + i] = *item;
-        }
-        self.len = start + more.len();
-        true
+        let end = start + more.len();
+        let slots = &mut self.slots[..];
+        slots[start..end].copy_from_slice(more);
+        self.len = end;
+        Ok(())
     }
 
     // The last item, taken off.
@@ -73,16 +75,17 @@ impl<T: Copy, const N: usize> ArrayVec<T, N> {
         Some(self.slots[last])
     }
 
-    // Another item at a place; false where there is none.
-    pub fn set(&mut self, place: usize, item: T) -> bool
-        ensures inside { result ≡ nat_lt place (length (items self.old)) }
+    // Another item at a place, and the one that stood there; none where there is no such place.
+    pub fn set(&mut self, place: usize, item: T) -> Option<T>
+        ensures was { result ≡ slice_get (items self.old) place }
         ensures items { items self.new ≡ slice_set (items self.old) place item }
     {
         if place >= self.len {
-            return false;
+            return None;
         }
+        let was = self.slots[place];
         self.slots[place] = item;
-        true
+        Some(was)
     }
 
     pub fn clear(&mut self)
@@ -90,4 +93,19 @@ impl<T: Copy, const N: usize> ArrayVec<T, N> {
     {
         self.len = 0;
     }
+}
+
+// By the items alone: what unused slots hold doesn't count.
+impl<T: PartialEq + Copy, const N: usize> PartialEq for ArrayVec<T, N> {
+    ghost eq = { λ v w. pointwise T.eq (items v) (items w) };
+
+    ghost laws = { on_per items (lists_per T.laws) };
+
+    fn eq(&self, other: &Self) -> bool {
+        self.as_slice() == other.as_slice()
+    }
+}
+
+impl<T: Eq + Copy, const N: usize> Eq for ArrayVec<T, N> {
+    ghost laws = { on_equiv items (lists_equiv T.Eq.laws) };
 }

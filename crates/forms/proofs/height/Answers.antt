@@ -1,16 +1,12 @@
-use Rattle.std.proofs.Common.{length}
-use Rattle.forms.proofs.Told.{no_height, some_height}
+use Rattle.std.proofs.Common.{◌≡◌, length, ap, ◌∙◌, rules}
+use Rattle.std.specs.Option.{option_map}
+use Rattle.forms.proofs.Told.{told_height}
 use Rattle.forms.proofs.height.Goals as goal
 
-pub returns-in-None : goal.returns-in-None
-returns-in-None g c =
+pub returns : goal.returns
+returns g c =
     let p = c.args.part.now in
     let r = g.P.Reckoning in
-    no_height (r.columns p) r.entry (r.meaning p) (g.met.P.Reckoning.faithful p) (g.met.P.Reckoning.limited p) c.args.codes.now (length c.args.memory.now) c.in-None.ensures.value
-
-pub returns-in-Some : goal.returns-in-Some
-returns-in-Some g c =
-    let p = c.args.part.now in
-    let r = g.P.Reckoning in
-    some_height (r.columns p) r.entry (r.meaning p) (g.met.P.Reckoning.faithful p) (g.met.P.Reckoning.limited p) c.args.codes.now (length c.args.memory.now)
-    c.in-Some.vector c.first.result c.in-Some.ensures.value c.first.ensures
+    let is : c.map.result ≡ option_map (λ v. r.entry v 0) c.evaluate.result = search rules in
+    is ∙ ap (option_map (λ v. r.entry v 0)) c.evaluate.ensures.value
+    ∙ told_height (r.columns p) r.entry (r.meaning p) (g.met.P.Reckoning.faithful p) (g.met.P.Reckoning.limited p) c.args.codes.now (length c.args.memory.now)

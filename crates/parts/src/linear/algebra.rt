@@ -4,8 +4,9 @@ ghost use Rattle.parts.specs.Views.{linear_of};
 ghost use Rattle.parts.specs.Lawfuls.{linear_lawful};
 
 use crate::linear::LinearPart;
-use algebras::{Algebra, AlgebraFault, Order};
-use terms::{MOST_TERM, Signature};
+use algebras::{Algebra, AlgebraFault, Order, check_size};
+use forms::WIDTH;
+use terms::{MOST_SIDE, MOST_TERM, Signature};
 
 impl Algebra for LinearPart {
     ghost means = { λ p. part_means (linear_of p) (linear_ceiling (linear_of p)) };
@@ -17,7 +18,7 @@ impl Algebra for LinearPart {
     }
 
     fn measure(&self, signature: &Signature, codes: &[u16]) -> Result<u64, AlgebraFault> {
-        let mut memory = [0; 1024];
+        let mut memory = [0; MOST_TERM];
         measuring::measure(self, signature, codes, &mut memory)
     }
 
@@ -27,17 +28,12 @@ impl Algebra for LinearPart {
         left: &[u16],
         right: &[u16],
     ) -> Result<Order, AlgebraFault> {
-        let mut memory = [[0; 33]; 32];
+        let mut memory = [[0; WIDTH]; MOST_SIDE];
         measuring::compare(self, signature, left, right, &mut memory)
     }
 
     fn ceiling(&self, size: usize) -> Result<Option<u64>, AlgebraFault> {
-        if size == 0 {
-            return Err(AlgebraFault::SizeOutOfRange);
-        }
-        if size > MOST_TERM {
-            return Err(AlgebraFault::SizeOutOfRange);
-        }
+        check_size(size)?;
         measuring::tell_ceiling(self.ceiling_at(size as u16))
     }
 }

@@ -4,8 +4,9 @@ ghost use Rattle.parts.specs.Views.{matrix_of};
 ghost use Rattle.parts.specs.Lawfuls.{matrix_lawful};
 
 use crate::matrix::MatrixPart;
-use algebras::{Algebra, AlgebraFault, Order};
-use terms::{MOST_TERM, Signature};
+use algebras::{Algebra, AlgebraFault, Order, check_size};
+use forms::WIDTH;
+use terms::{MOST_SIDE, MOST_TERM, Signature};
 
 impl Algebra for MatrixPart {
     ghost means = { λ p. part_means (matrix_of p) no_ceiling };
@@ -17,7 +18,7 @@ impl Algebra for MatrixPart {
     }
 
     fn measure(&self, signature: &Signature, codes: &[u16]) -> Result<u64, AlgebraFault> {
-        let mut memory = [[0; 4]; 1024];
+        let mut memory = [[0; 4]; MOST_TERM];
         measuring::measure(self, signature, codes, &mut memory)
     }
 
@@ -27,17 +28,12 @@ impl Algebra for MatrixPart {
         left: &[u16],
         right: &[u16],
     ) -> Result<Order, AlgebraFault> {
-        let mut memory = [[[0; 4]; 33]; 32];
+        let mut memory = [[[0; 4]; WIDTH]; MOST_SIDE];
         measuring::compare(self, signature, left, right, &mut memory)
     }
 
     fn ceiling(&self, size: usize) -> Result<Option<u64>, AlgebraFault> {
-        if size == 0 {
-            return Err(AlgebraFault::SizeOutOfRange);
-        }
-        if size > MOST_TERM {
-            return Err(AlgebraFault::SizeOutOfRange);
-        }
+        check_size(size)?;
         Ok(None)
     }
 }

@@ -1,67 +1,48 @@
 // What is made, told and reckoned of a matrix part.
-ghost use Rattle.std.specs.Prelude.{◌≡◌, ◌*◌, ◌<◌, ◌≤◌, ltb, [], map, length, get_or, if◌then◌else◌, nat_eq, slice_index, slice_index_or, refl};
-ghost use Rattle.std.specs.List.{AllByRecursion};
+ghost use Rattle.std.specs.Prelude.{◌≡◌, ◌*◌, ◌<◌, ◌≤◌, All, min, [], refl, take, nat_lt, slice_index, slice_index_or, sum_by};
+ghost use Rattle.std.specs.List.{zip};
 ghost use Rattle.terms.specs.Models.{arities_of};
 ghost use Rattle.algebras.specs.Meanings.{reach};
-ghost use Rattle.interpretations.specs.Numbers.{total, every};
-ghost use Rattle.forms.specs.Faithful.{weighed};
-ghost use Rattle.parts.specs.Kinds.{matrix_part};
-ghost use Rattle.parts.specs.Vectors.{vector, vector_columns, VectorNear};
+ghost use Rattle.interpretations.specs.Numbers.{every};
+ghost use Rattle.parts.specs.Kinds.{matrix_part, matrix_row};
+ghost use Rattle.parts.specs.Vectors.{vector, vector_columns, dotted};
 ghost use Rattle.parts.specs.Views.{matrix_of};
 ghost use Rattle.parts.specs.Making.{Made};
 ghost use Rattle.parts.specs.Columned.{vector_faithful, zero_within, unit_within};
 ghost use Rattle.parts.specs.MakingLemmas.{limited_from};
 
-use crate::linear::calls::base;
-use crate::matrix::{Matrices, MatrixPart};
+use crate::matrix::{MatrixPart, MatrixSymbol};
+use crate::symbols::{all_symbols, base, dot};
 use algebras::REACH;
 use forms::Reckoning;
+use std::array;
 use terms::Signature;
 
-// Whether the top left entries of the matrices of all arguments are positive.
-fn positive_tops(matrices: &Matrices, arity: usize) -> bool
-    requires { arity ≤ 4 }
-    ensures { result ≡ every arity (λ k. ltb 0 (slice_index (slice_index_or (get_or matrices.now.args k record { rows = [] }).rows 0 []) 0)) }
-{
-    for k in 0..arity {
-        if matrices.args[k].rows[0][0] == 0 {
-            return false;
+impl MatrixSymbol {
+    // Whether the top left entries of the matrices of as many arguments are positive.
+    fn is_positive(&self, arity: u8) -> bool
+        ensures { result ≡ every (min arity 4) (λ k. nat_lt 0 (slice_index (matrix_row self.now k 0) 0)) }
+    {
+        self.matrices
+            .iter()
+            .take(arity as usize)
+            .all(|matrix| matrix.rows[0][0] > 0)
+    }
+
+    // One entry of the sum of the arguments, each times its matrix.
+    fn weigh(&self, dimension: usize, row: usize, args: &[[u64; 4]]) -> u64
+        requires narrow { dimension ≤ 4 }
+        requires inside { row < 4 }
+        requires small { All (λ arg. All (λ value. value ≤ reach) (take dimension arg)) args.now }
+        ensures sum { result ≡ sum_by (λ p. dotted (slice_index_or p.0.rows row []) (take dimension p.1)) (zip self.now.matrices args.now) }
+        ensures bound { result ≤ 4080 * reach }
+    {
+        let mut sum = 0;
+        for (matrix, arg) in self.matrices.iter().zip(args) {
+            sum += dot(&matrix.rows[row], &arg[..dimension]);
         }
+        sum
     }
-    true
-}
-
-fn is_positive(signature: &Signature, matrices: &[Matrices; 32]) -> bool
-    ensures { result ≡ every (length (arities_of signature.now)) (λ f. every (slice_index (arities_of signature.now) f) (λ k. ltb 0 (slice_index (slice_index_or (get_or (get_or matrices.now f record { args = [] }).args k record { rows = [] }).rows 0 []) 0))) }
-{
-    let arities = signature.arities();
-    for f in 0..arities.len() {
-        if !positive_tops(&matrices[f], arities[f] as usize) {
-            return false;
-        }
-    }
-    true
-}
-
-// A row times a vector, as far as the dimension goes.
-fn dot(dimension: usize, row: &[u8; 4], values: &[u64; 4]) -> u64
-    requires narrow { dimension ≤ 4 }
-    requires small { VectorNear dimension values.now }
-    ensures sum { result ≡ total dimension (λ j. slice_index row.now j * slice_index values.now j) }
-    ensures bound { result ≤ 1020 * reach }
-{
-    let mut sum = 0;
-    for j in 0..dimension {
-        sum += row[j] as u64 * values[j];
-    }
-    sum
-}
-
-// 1 if they are equal, else 0.
-fn indicator(a: usize, b: usize) -> u64
-    ensures { result ≡ (if nat_eq a b then 1 else 0) }
-{
-    if a == b { 1 } else { 0 }
 }
 
 impl MatrixPart {
@@ -70,46 +51,21 @@ impl MatrixPart {
     pub fn new(
         signature: Signature,
         dimension: usize,
-        constants: [[u8; 4]; 32],
-        matrices: [Matrices; 32],
+        symbols: [MatrixSymbol; 32],
     ) -> Option<MatrixPart>
-        ensures { Made matrix_of (matrix_part (arities_of signature) dimension constants matrices) result }
+        ensures { Made matrix_of (matrix_part (arities_of signature) dimension symbols) result }
     {
-        if dimension == 0 {
+        if dimension == 0 || dimension > 4 {
             return None;
         }
-        if dimension > 4 {
-            return None;
-        }
-        if !is_positive(&signature, &matrices) {
+        if !all_symbols(&signature, &symbols, MatrixSymbol::is_positive) {
             return None;
         }
         Some(MatrixPart {
             signature,
             dimension,
-            constants,
-            matrices,
+            symbols,
         })
-    }
-
-    // One entry of the sum of the arguments, each times its matrix.
-    fn weigh(&self, symbol: usize, row: usize, args: &[[u64; 4]]) -> u64
-        requires known { symbol < 32 }
-        requires inside { row < 4 }
-        requires few { length args.now ≤ 4 }
-        requires small { AllByRecursion (VectorNear self.now.dimension) args.now }
-        ensures sum { result ≡ weighed (matrix_of self.now) symbol 0 (map vector args.now) row }
-        ensures bound { result ≤ 4080 * reach }
-    {
-        let mut sum = 0;
-        for at in 0..args.len() {
-            sum += dot(
-                self.dimension,
-                &self.matrices[symbol].args[at].rows[row],
-                &args[at],
-            );
-        }
-        sum
     }
 }
 
@@ -139,12 +95,10 @@ impl Reckoning for MatrixPart {
     }
 
     fn covers(&self, left: [u64; 4], right: [u64; 4]) -> bool {
-        for i in 0..self.dimension {
-            if right[i] > left[i] {
-                return false;
-            }
-        }
-        true
+        left.iter()
+            .zip(&right)
+            .take(self.dimension)
+            .all(|(l, r)| r <= l)
     }
 
     fn zero(&self) -> [u64; 4] {
@@ -152,23 +106,17 @@ impl Reckoning for MatrixPart {
     }
 
     fn unit(&self, variable: usize, k: usize) -> [u64; 4] {
-        let first = 4 * variable + 1;
-        [
-            indicator(k, first),
-            indicator(k, first + 1),
-            indicator(k, first + 2),
-            indicator(k, first + 3),
-        ]
+        array::from_fn(|i| u64::from(k == 4 * variable + 1 + i))
     }
 
     fn combine(&self, constant: bool, symbol: usize, args: &[[u64; 4]]) -> Option<[u64; 4]> {
+        let symbol = &self.symbols[symbol];
         let mut value = [0; 4];
-        for row in 0..self.dimension {
-            let sum = base(constant, self.constants[symbol][row]) + self.weigh(symbol, row, args);
-            if sum > REACH {
+        for (row, entry) in value[..self.dimension].iter_mut().enumerate() {
+            *entry = base(constant, symbol.constant[row]) + symbol.weigh(self.dimension, row, args);
+            if *entry > REACH {
                 return None;
             }
-            value[row] = sum;
         }
         Some(value)
     }

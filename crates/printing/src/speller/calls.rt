@@ -1,8 +1,10 @@
 // Word by word.
 ghost use Rattle.std.specs.Prelude.{◌≡◌, ◌≤◌, [], length};
+ghost use Rattle.std.specs.Iterator.{YieldsFirstBy, item_count};
 ghost use Rattle.vocabulary.specs.Naming.{naming_of};
+ghost use Rattle.printing.specs.Pieces.{piece_word};
 ghost use Rattle.printing.specs.Showing.{shown};
-ghost use Rattle.printing.specs.Spellers.{words_left, Taken};
+ghost use Rattle.printing.specs.Spellers.{words_left};
 ghost use Rattle.printing.specs.declared.speller.Wants.{Wants};
 
 use crate::piece::Piece;
@@ -18,7 +20,6 @@ impl<'a> Speller<'a> {
         Speller {
             names,
             codes,
-            pos: 0,
             pending: ArrayVec::new(0),
             wants: Wants::Code,
         }
@@ -27,47 +28,49 @@ impl<'a> Speller<'a> {
     // The name of the next code; a symbol with arguments awaits them.
     fn code(&mut self) -> Option<Piece>
         requires { self.old.wants ≡ Wants.Code }
-        ensures { Taken (words_left self.old) result (words_left self.new) }
+        ensures { YieldsFirstBy piece_word words_left self.old result self.new }
     {
-        if self.pos >= self.codes.len() {
-            return None;
-        }
-        let code = self.codes[self.pos];
-        let Some(name) = self.names.vocabulary().name_of(code) else {
-            return None;
-        };
-        let arity = self.names.signature().arity(code);
-        self.pos += 1;
+        let (code, rest) = self.codes.split_first()?;
+        let name = self.names.vocabulary().name_of(*code)?;
+        let arity = self.names.signature().arity(*code);
+        self.codes = rest;
         if arity == 0 {
             self.wants = Wants::Settle;
-            return Some(Piece::Named(name));
+        } else {
+            self.pending.push(arity as u8).unwrap();
+            self.wants = Wants::Bracket;
         }
-        // There is room: each pending symbol is one of at most 1,024 codes.
-        let _ = self.pending.push(arity as u8);
-        self.wants = Wants::Bracket;
         Some(Piece::Named(name))
     }
 
     // What stands behind a whole term: the bracket or the comma of the innermost symbol, or the next code.
     fn settle(&mut self) -> Option<Piece>
         requires { self.old.wants ≡ Wants.Settle }
-        ensures { Taken (words_left self.old) result (words_left self.new) }
+        ensures { YieldsFirstBy piece_word words_left self.old result self.new }
     {
-        let Some(more) = self.pending.pop() else {
-            self.wants = Wants::Code;
-            return self.code();
-        };
-        if more <= 1 {
-            return Some(Piece::Close);
+        match self.pending.pop() {
+            None => {
+                self.wants = Wants::Code;
+                self.code()
+            }
+            Some(0 | 1) => Some(Piece::Close),
+            Some(more) => {
+                self.pending.push(more - 1).unwrap();
+                self.wants = Wants::Code;
+                Some(Piece::Comma)
+            }
         }
-        let _ = self.pending.push(more - 1);
-        self.wants = Wants::Code;
-        Some(Piece::Comma)
     }
+}
 
-    pub(crate) fn next(&mut self) -> Option<Piece>
-        ensures { Taken (words_left self.old) result (words_left self.new) }
-    {
+impl<'a> Iterator for Speller<'a> {
+    type Item = Piece;
+
+    ghost next_gives = { YieldsFirstBy piece_word words_left };
+
+    ghost remaining = { item_count words_left };
+
+    fn next(&mut self) -> Option<Piece> {
         match self.wants {
             Wants::Code => self.code(),
             Wants::Bracket => {

@@ -4,7 +4,6 @@ ghost use Rattle.tokens.specs.Names.{name_bytes};
 ghost use Rattle.tokens.specs.Tokens.{Word.named};
 ghost use Rattle.tokens.specs.Lexing.{word_of};
 ghost use Rattle.vocabulary.specs.Models.{vocabulary_of};
-ghost use Rattle.vocabulary.specs.Replies.{settle_reply, settled};
 ghost use Rattle.reading.specs.Sides.{fresh, is_full, is_whole, use_symbol, at_term};
 ghost use Rattle.reading.specs.Models.{role_of, state_of, reply_of, Admits, Opens, Continues, close_use, side_step, UsesVariable, Numbers, Stands};
 
@@ -12,7 +11,7 @@ use crate::role::Role;
 use crate::side::Side;
 use crate::state::{Await, Use};
 use bounded::ArrayVec;
-use terms::{FIRST_VARIABLE, MOST_ARGUMENTS};
+use terms::{Code, MOST_ARGUMENTS};
 use tokens::{Name, Token};
 use vocabulary::{Flaw, Vocabulary};
 
@@ -34,22 +33,14 @@ impl Side {
     pub fn restart(&mut self)
         ensures { state_of self.new ≡ fresh }
     {
-        self.uses.clear();
-        self.codes.clear();
-        self.awaits = Await::Term;
+        *self = Side::new();
     }
 
     // Whether the term is complete.
     pub fn is_whole(&self) -> bool
         ensures { result ≡ is_whole (state_of self.now) }
     {
-        if self.uses.as_slice().len() > 0 {
-            return false;
-        }
-        match self.awaits {
-            Await::After => true,
-            _ => false,
-        }
+        self.uses.as_slice().is_empty() && self.awaits == Await::After
     }
 
     fn is_full(&self, role: &Role) -> bool
@@ -65,18 +56,15 @@ impl Side {
         if self.is_full(role) {
             return Err(Flaw::TooLong);
         }
-        self.codes.push(code);
-        if bare {
-            self.awaits = Await::After;
-        } else if code < FIRST_VARIABLE {
-            self.uses.push(Use {
-                symbol: code,
-                begun: 0,
-            });
-            self.awaits = Await::Bracket;
-        } else {
-            self.awaits = Await::NoBracket;
-        }
+        self.codes.push(code).unwrap();
+        self.awaits = match Code::from(code) {
+            _ if bare => Await::After,
+            Code::Symbol(symbol) => {
+                self.uses.push(Use { symbol, begun: 0 }).unwrap();
+                Await::Bracket
+            }
+            Code::Variable(_) => Await::NoBracket,
+        };
         Ok(())
     }
 
@@ -85,16 +73,17 @@ impl Side {
         ensures value { Numbers (role_of role.now) (vocabulary_of vocabulary.old) (state_of self.now) (name_bytes name.now) result (vocabulary_of vocabulary.new) }
         ensures known { Stands (vocabulary_of vocabulary.new) (name_bytes name.now) result }
     {
-        let Role::Start = role else {
-            return vocabulary.number(name);
-        };
-        if let Some(code) = vocabulary.code_of(name) {
-            return Ok(code);
+        match role {
+            Role::Left | Role::Right(_) => vocabulary.number(name),
+            Role::Start => {
+                let code = vocabulary.code_of(name);
+                code.ok_or(if self.is_full(role) {
+                    Flaw::TooLong
+                } else {
+                    Flaw::UnknownName
+                })
+            }
         }
-        if self.is_full(role) {
-            return Err(Flaw::TooLong);
-        }
-        Err(Flaw::UnknownName)
     }
 
     // A symbol: without a bracket behind it, its use is complete.
@@ -108,11 +97,10 @@ impl Side {
         requires { code < length (vocabulary_of vocabulary.old).symbols }
         ensures { reply_of result (vocabulary_of vocabulary.new) (state_of self.new) ≡ use_symbol (role_of role.now) (vocabulary_of vocabulary.old) (state_of self.old) bare code }
     {
-        if !bare {
-            return self.admit(role, code, false);
+        if bare {
+            vocabulary.settle(code, 0)?;
         }
-        vocabulary.settle(code, 0)?;
-        self.admit(role, code, true)
+        self.admit(role, code, bare)
     }
 
     fn use_variable(&mut self, role: &Role, code: u16, bare: bool) -> Result<(), Flaw>
@@ -135,68 +123,46 @@ impl Side {
         ensures { reply_of result (vocabulary_of vocabulary.new) (state_of self.new) ≡ at_term (role_of role.now) (vocabulary_of vocabulary.old) (state_of self.old) bare (named (name_bytes name.now)) }
     {
         let code = self.number(role, vocabulary, name)?;
-        if code < FIRST_VARIABLE {
-            self.use_symbol(role, vocabulary, code, bare)
-        } else {
-            self.use_variable(role, code, bare)
+        match Code::from(code) {
+            Code::Symbol(symbol) => self.use_symbol(role, vocabulary, symbol, bare),
+            Code::Variable(_) => self.use_variable(role, code, bare),
         }
     }
 
     // The bracket of the innermost use.
+    #[tactic(auto, using(std::proofs::lemmas::Grind::common_steps, bounded::proofs::Lengths::items_few))]
     fn open(&mut self) -> Result<(), Flaw>
         ensures { Opens (state_of self.old) result (state_of self.new) }
     {
-        let Some(last) = self.uses.pop() else {
-            return Err(Flaw::Misplaced);
-        };
-        self.uses.push(Use {
-            symbol: last.symbol,
-            begun: 1,
-        });
+        let last = self.uses.pop().ok_or(Flaw::Misplaced)?;
+        self.uses.push(Use { begun: 1, ..last }).unwrap();
         self.awaits = Await::Term;
         Ok(())
     }
 
     // The next argument of the innermost use.
+    #[tactic(auto, using(std::proofs::lemmas::Grind::common_steps, bounded::proofs::Lengths::items_few))]
     fn comma(&mut self) -> Result<(), Flaw>
         ensures { Continues (state_of self.old) result (state_of self.new) }
     {
-        let Some(last) = self.uses.pop() else {
-            return Err(Flaw::Misplaced);
-        };
+        let last = self.uses.pop().ok_or(Flaw::Misplaced)?;
         if last.begun >= MOST_ARGUMENTS {
             return Err(Flaw::Arguments);
         }
-        self.uses.push(Use {
-            symbol: last.symbol,
-            begun: last.begun + 1,
-        });
+        let begun = last.begun + 1;
+        self.uses.push(Use { begun, ..last }).unwrap();
         self.awaits = Await::Term;
         Ok(())
     }
 
     // A complete use fixes its symbol's arity, or has to agree with it: an inner use comes before those around it.
-    fn complete(&self, vocabulary: &mut Vocabulary, done: Use) -> Result<(), Flaw>
-        ensures value { result ≡ settle_reply (vocabulary_of vocabulary.old) done.symbol done.begun }
-        ensures after { vocabulary_of vocabulary.new ≡ settled (vocabulary_of vocabulary.old) done.symbol done.begun }
-    {
-        vocabulary.settle(done.symbol, done.begun)
-    }
-
-    // The innermost use is complete.
     fn close(&mut self, vocabulary: &mut Vocabulary) -> Result<(), Flaw>
         ensures { reply_of result (vocabulary_of vocabulary.new) (state_of self.new) ≡ close_use (vocabulary_of vocabulary.old) (state_of self.old).codes (state_of self.old).uses }
     {
-        let Some(last) = self.uses.pop() else {
-            return Err(Flaw::Misplaced);
-        };
-        match self.complete(vocabulary, last) {
-            Ok(()) => {
-                self.awaits = Await::After;
-                Ok(())
-            }
-            Err(flaw) => Err(flaw),
-        }
+        let last = self.uses.pop().ok_or(Flaw::Misplaced)?;
+        vocabulary.settle(last.symbol, last.begun)?;
+        self.awaits = Await::After;
+        Ok(())
     }
 
     // One token, where `bare` says that no bracket follows it. The text's end comes too early.
@@ -209,25 +175,15 @@ impl Side {
     ) -> Result<(), Flaw>
         ensures { reply_of result (vocabulary_of vocabulary.new) (state_of self.new) ≡ side_step (role_of role.now) (vocabulary_of vocabulary.old) (state_of self.old) (word_of token.now) bare }
     {
-        match self.awaits {
-            Await::Term => match token {
-                Token::Named(name) => self.begin(role, vocabulary, name, bare),
-                Token::Long => Err(Flaw::LongName),
-                _ => Err(Flaw::Misplaced),
-            },
-            Await::Bracket => match token {
-                Token::Open => self.open(),
-                _ => Err(Flaw::Misplaced),
-            },
-            Await::NoBracket => match token {
-                Token::End => Err(Flaw::Misplaced),
-                _ => Err(Flaw::Arguments),
-            },
-            Await::After => match token {
-                Token::Comma => self.comma(),
-                Token::Close => self.close(vocabulary),
-                _ => Err(Flaw::Misplaced),
-            },
+        match (self.awaits, token) {
+            (Await::Term, Token::Named(name)) => self.begin(role, vocabulary, name, bare),
+            (Await::Term, Token::Long) => Err(Flaw::LongName),
+            (Await::Bracket, Token::Open) => self.open(),
+            (Await::After, Token::Comma) => self.comma(),
+            (Await::After, Token::Close) => self.close(vocabulary),
+            (_, Token::End) => Err(Flaw::Misplaced),
+            (Await::NoBracket, _) => Err(Flaw::Arguments),
+            _ => Err(Flaw::Misplaced),
         }
     }
 }

@@ -1,17 +1,17 @@
 // The calls on a subject.
-ghost use Rattle.std.specs.Prelude.{◌≡◌, is_ok, Decides};
+ghost use Rattle.std.specs.Prelude.{◌≡◌, ◌<◌, length, is_ok, Decides};
+ghost use Rattle.terms.specs.Codes.{sub_at};
 ghost use Rattle.terms.specs.Steps.{Normal, FirstRedex};
 ghost use Rattle.terms.specs.Systems.{signature_of};
 ghost use Rattle.terms.specs.Replies.{viewed};
 ghost use Rattle.terms.specs.Laws.{Reading};
-ghost use Rattle.rewriting.specs.Searching.{first_redex};
+ghost use Rattle.rewriting.specs.Searching.{first_redex, lowest_rule as lowest_rule_of};
 ghost use Rattle.rewriting.specs.Replies.{rewritten, answer, codes_after};
 ghost use Rattle.rewriting.specs.Subjects.{arities_in, rules_in, codes_in, term_in, opened, subject_reply};
 ghost use Rattle.rewriting.specs.Laws.{Rewrites};
 
 use crate::fault::RewriteFault;
-use crate::replacing::step_into;
-use crate::searching::find_redex;
+use crate::place::Place;
 use crate::subject::Subject;
 use bounded::ArrayVec;
 use terms::{Malformed, System};
@@ -25,8 +25,7 @@ impl Subject {
         if !system.signature().is_term(codes) {
             return Err(Malformed::Term);
         }
-        let mut term = ArrayVec::new(0);
-        let _ = term.extend(codes);
+        let term = ArrayVec::from_slice(0, codes).map_err(|_| Malformed::Term)?;
         Ok(Subject {
             system,
             term,
@@ -46,12 +45,25 @@ impl Subject {
         self.term.as_slice()
     }
 
+    // The lowest rule that matches at a place.
+    fn lowest_rule(&self, at: usize) -> Option<usize>
+        requires { at < length (codes_in self.now) }
+        ensures { result ≡ lowest_rule_of (rules_in self.now) (sub_at (arities_in self.now) (codes_in self.now) at) }
+    {
+        let place = Place {
+            signature: self.system.signature(),
+            codes: self.codes(),
+            at,
+        };
+        place.lowest_rule(self.system.rules())
+    }
+
     // The place and the rule of the first redex together; none at a normal form.
     pub fn first_redex(&self) -> Option<(usize, usize)>
         ensures value { result ≡ first_redex (arities_in self.now) (rules_in self.now) (codes_in self.now) }
         ensures means { FirstRedex (rules_in self.now) (term_in self.now) result }
     {
-        find_redex(&self.system, self.term.as_slice())
+        (0..self.codes().len()).find_map(|at| self.lowest_rule(at).map(|rule| (at, rule)))
     }
 
     pub fn is_normal(&self) -> bool
@@ -67,23 +79,18 @@ impl Subject {
         ensures same { self.new.system ≡ self.old.system }
         ensures means { Rewrites (rules_in self.old) (term_in self.old) rule place result (term_in self.new) }
     {
-        let rules = self.system.rules();
-        if rule >= rules.len() {
-            return Err(RewriteFault::NoRule);
-        }
+        let rule = self.system.rules().get(rule).ok_or(RewriteFault::NoRule)?;
         let codes = self.term.as_slice();
         if place >= codes.len() {
             return Err(RewriteFault::NoPlace);
         }
-        step_into(
-            self.system.signature(),
-            &rules[rule],
+        let place = Place {
+            signature: self.system.signature(),
             codes,
-            place,
-            &mut self.next,
-        )?;
-        let next = self.next;
-        self.term = next;
+            at: place,
+        };
+        place.step_into(rule, &mut self.next)?;
+        self.term = self.next;
         Ok(())
     }
 }

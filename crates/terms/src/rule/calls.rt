@@ -1,7 +1,7 @@
 // The tests of two sides, and the checked constructor.
 ghost use Rattle.std.specs.Prelude.{◌≡◌, ◌≤◌, [], ◌∷◌, length};
 ghost use Rattle.bounded.specs.Items.{items};
-ghost use Rattle.terms.specs.Shapes.{has, covers, all_within, is_side, is_proper};
+ghost use Rattle.terms.specs.Shapes.{has, covers, all_within, starts_with_symbol, is_side, is_proper};
 ghost use Rattle.terms.specs.Models.{Sides, sides_of};
 ghost use Rattle.terms.specs.Replies.{viewed, rule_reply};
 
@@ -14,72 +14,40 @@ use bounded::ArrayVec;
 pub fn has_code(codes: &[u16], code: u16) -> bool
     ensures { result ≡ has codes.now code }
 {
-    for c in codes {
-        if code == *c {
-            return true;
-        }
-    }
-    false
+    codes.contains(&code)
 }
 
 fn covers_variables(left: &[u16], right: &[u16]) -> bool
     ensures { result ≡ covers left.now right.now }
 {
-    for code in right {
-        if *code >= FIRST_VARIABLE && !has_code(left, *code) {
-            return false;
-        }
-    }
-    true
+    right
+        .iter()
+        .all(|code| *code < FIRST_VARIABLE || has_code(left, *code))
+}
+
+fn starts_with_symbol(codes: &[u16]) -> bool
+    ensures { result ≡ starts_with_symbol codes.now }
+{
+    codes.first().is_some_and(|code| *code < FIRST_VARIABLE)
 }
 
 fn has_few_variables(codes: &[u16]) -> bool
     ensures { result ≡ all_within 32775 codes.now }
 {
-    for code in codes {
-        if *code > LAST_VARIABLE {
-            return false;
-        }
-    }
-    true
+    codes.iter().all(|code| *code <= LAST_VARIABLE)
 }
 
 fn is_side(codes: &[u16]) -> bool
     ensures { result ≡ is_side codes.now }
 {
-    if codes.len() == 0 {
-        return false;
-    }
-    if codes.len() > MOST_SIDE {
-        return false;
-    }
-    has_few_variables(codes)
+    !codes.is_empty() && codes.len() <= MOST_SIDE && has_few_variables(codes)
 }
 
 // Whether two sides are a rule under some signature: the left is no variable, and has all variables of the right.
 pub(crate) fn is_proper(left: &[u16], right: &[u16]) -> bool
     ensures { result ≡ is_proper left.now right.now }
 {
-    if !is_side(left) {
-        return false;
-    }
-    if !is_side(right) {
-        return false;
-    }
-    if left[0] >= FIRST_VARIABLE {
-        return false;
-    }
-    covers_variables(left, right)
-}
-
-// A side's codes in memory of their own.
-fn kept(codes: &[u16]) -> ArrayVec<u16, 32>
-    requires { length codes.now ≤ 32 }
-    ensures { items result ≡ codes.now }
-{
-    let mut side = ArrayVec::new(0);
-    let _ = side.extend(codes);
-    side
+    is_side(left) && is_side(right) && starts_with_symbol(left) && covers_variables(left, right)
 }
 
 impl Rule {
@@ -90,8 +58,8 @@ impl Rule {
             return Err(Malformed::Rule);
         }
         Ok(Rule {
-            left: kept(left),
-            right: kept(right),
+            left: ArrayVec::from_slice(0, left).unwrap(),
+            right: ArrayVec::from_slice(0, right).unwrap(),
         })
     }
 
@@ -100,8 +68,8 @@ impl Rule {
         ensures { sides_of result ≡ record { left = 0 ∷ []; right = 0 ∷ [] } }
     {
         Rule {
-            left: kept(&[0]),
-            right: kept(&[0]),
+            left: ArrayVec::from_slice(0, &[0]).unwrap(),
+            right: ArrayVec::from_slice(0, &[0]).unwrap(),
         }
     }
 

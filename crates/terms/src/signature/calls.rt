@@ -6,21 +6,17 @@ ghost use Rattle.terms.specs.Models.{arities_of};
 ghost use Rattle.terms.specs.Replies.{viewed, signature_reply, span_reply, end_reply};
 ghost use Rattle.terms.specs.Laws.{SignatureExactly, TermExactly, RuleExactly, EndsExactly};
 
+use crate::code::Code;
 use crate::malformed::Malformed;
 use crate::rule::is_proper;
 use crate::signature::Signature;
-use crate::{FIRST_VARIABLE, LAST_VARIABLE, MOST_ARGUMENTS, MOST_TERM};
+use crate::{MOST_ARGUMENTS, MOST_TERM, VARIABLES};
 use bounded::ArrayVec;
 
 fn all_small(arities: &[u8]) -> bool
     ensures { result ≡ all_within 4 arities.now }
 {
-    for arity in arities {
-        if *arity > MOST_ARGUMENTS {
-            return false;
-        }
-    }
-    true
+    arities.iter().all(|arity| *arity <= MOST_ARGUMENTS)
 }
 
 impl Signature {
@@ -29,10 +25,7 @@ impl Signature {
         ensures value { viewed arities_of result ≡ signature_reply arities.now }
         ensures means { SignatureExactly arities.now (is_ok result) }
     {
-        let mut kept = ArrayVec::new(0);
-        if !kept.extend(arities) {
-            return Err(Malformed::Signature);
-        }
+        let kept = ArrayVec::from_slice(0, arities).map_err(|_| Malformed::Signature)?;
         if !all_small(arities) {
             return Err(Malformed::Signature);
         }
@@ -50,25 +43,21 @@ impl Signature {
         ensures value { result ≡ arity (arities_of self.now) code }
         ensures small { result ≤ 4 }
     {
-        if code >= FIRST_VARIABLE {
-            return 0;
-        }
-        let arities = self.arities();
-        let symbol = code as usize;
-        if symbol < arities.len() {
-            arities[symbol] as usize
-        } else {
-            0
+        match Code::from(code) {
+            Code::Symbol(symbol) => {
+                let arity = self.arities().get(symbol as usize);
+                arity.map_or(0, |arity| *arity as usize)
+            }
+            Code::Variable(_) => 0,
         }
     }
 
     fn is_known(&self, code: u16) -> bool
         ensures { result ≡ known (arities_of self.now) code }
     {
-        if code < FIRST_VARIABLE {
-            (code as usize) < self.arities().len()
-        } else {
-            code <= LAST_VARIABLE
+        match Code::from(code) {
+            Code::Symbol(symbol) => (symbol as usize) < self.arities().len(),
+            Code::Variable(variable) => variable < VARIABLES,
         }
     }
 
@@ -101,13 +90,15 @@ impl Signature {
         if codes.len() > MOST_TERM {
             return 0;
         }
+        let rest = codes.get(at..).unwrap_or(&[]);
         let mut need: usize = 1;
-        let mut end = at;
-        while need > 0 && end < codes.len() {
-            need = need - 1 + self.arity(codes[end]);
-            end += 1;
+        for (taken, code) in rest.iter().enumerate() {
+            if need == 0 {
+                return taken;
+            }
+            need = need - 1 + self.arity(*code);
         }
-        end - at
+        rest.len()
     }
 
     // Where the subterm at a place ends; none if the codes are no term, or have no such place.
@@ -129,12 +120,6 @@ impl Signature {
         ensures value { result ≡ is_rule (arities_of self.now) left.now right.now }
         ensures means { RuleExactly (arities_of self.now) left.now right.now result }
     {
-        if !is_proper(left, right) {
-            return false;
-        }
-        if !self.is_term(left) {
-            return false;
-        }
-        self.is_term(right)
+        is_proper(left, right) && self.is_term(left) && self.is_term(right)
     }
 }

@@ -28,10 +28,7 @@ impl System {
         ensures value { viewed system_of result ≡ system_reply (arities_of signature) (all_sides rules.now) }
         ensures means { SystemExactly (arities_of signature) (all_sides rules.now) (viewed system_of result) }
     {
-        let mut kept = ArrayVec::new(Rule::unused());
-        if !kept.extend(rules) {
-            return Err(Malformed::System);
-        }
+        let kept = ArrayVec::from_slice(Rule::unused(), rules).map_err(|_| Malformed::System)?;
         if !are_rules(&signature, rules) {
             return Err(Malformed::System);
         }

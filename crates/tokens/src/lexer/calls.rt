@@ -1,28 +1,35 @@
 // Token by token.
-ghost use Rattle.std.specs.Prelude.{◌≡◌, ◌+◌, ◌<◌, ◌≤◌, true, T, length, drop, Some, slice_index};
-ghost use Rattle.tokens.specs.Bytes.{blank, letter, all_letters, run};
-ghost use Rattle.tokens.specs.Classes.{in_class};
-ghost use Rattle.tokens.specs.Tokens.{tokens, name_or_long, is_arrow, mark, token, extra};
+ghost use Rattle.std.specs.Prelude.{◌≡◌, ◌<◌, ◌≤◌, T, length, Some};
+ghost use Rattle.std.specs.List.{prefix_len};
+ghost use Rattle.tokens.specs.Bytes.{blank, letter, all_letters};
+ghost use Rattle.tokens.specs.Tokens.{tokens, name_or_long, mark};
 ghost use Rattle.tokens.specs.Cuts.{Tokenized};
-ghost use Rattle.tokens.specs.Lexing.{word_of, Pops};
+ghost use Rattle.tokens.specs.Lexing.{word_of, first_word, first_length, Pops};
 ghost use Rattle.tokens.specs.Lexers.{rest_of, end_of};
 
-use crate::class::Class;
 use crate::lexer::Lexer;
 use crate::name::{Name, is_letter};
 use crate::token::{Lexeme, Token};
 
-// The first place from `from` on that is of another class.
-fn past(class: Class, text: &[u8], from: usize) -> usize
-    requires { from ≤ length text.now }
-    ensures end { result ≡ from + run (in_class class) (drop from text.now) }
+fn is_blank(b: u8) -> bool
+    ensures { result ≡ blank b }
+{
+    matches!(b, b' ' | b'\t' | b'\r' | b'\n')
+}
+
+// How many blanks a text begins with.
+fn blanks(text: &[u8]) -> usize
+    ensures are { result ≡ prefix_len blank text.now }
     ensures within { result ≤ length text.now }
 {
-    let mut i = from;
-    while i < text.len() && class.has(text[i]) {
-        i += 1;
-    }
-    i
+    text.iter().take_while(|b| is_blank(**b)).count()
+}
+
+// How many letters a text begins with.
+fn letters(text: &[u8]) -> usize
+    ensures { result ≡ prefix_len letter text.now }
+{
+    text.iter().take_while(|b| is_letter(**b)).count()
 }
 
 // A run of letters as a token.
@@ -48,36 +55,23 @@ fn mark_token(b: u8) -> Token
     }
 }
 
-fn is_arrow_at(text: &[u8], at: usize) -> bool
-    requires { at < length text.now }
-    ensures is { result ≡ is_arrow (slice_index text.now at) (drop (at + 1) text.now) }
-    ensures fits { result ≡ true → at + 2 ≤ length text.now }
-{
-    if text[at] != b'-' {
-        return false;
-    }
-    if at + 1 >= text.len() {
-        return false;
-    }
-    text[at + 1] == b'>'
-}
-
-// The token that begins at a place, and where it ends.
-fn token_at(text: &[u8], at: usize) -> (Token, usize)
-    requires { at < length text.now }
-    ensures word { word_of result.0 ≡ Some (token (slice_index text.now at) (drop (at + 1) text.now)) }
-    ensures end { result.1 ≡ at + 1 + extra (slice_index text.now at) (drop (at + 1) text.now) }
+// The token that a text begins with, and how many bytes it takes.
+fn first_token(text: &[u8]) -> (Token, usize)
+    ensures word { word_of result.0 ≡ first_word text.now }
+    ensures takes { result.1 ≡ first_length text.now }
     ensures within { result.1 ≤ length text.now }
 {
-    let b = text[at];
-    if is_letter(b) {
-        let end = past(Class::Letter, text, at + 1);
-        return (name_token(&text[at..end]), end);
+    let count = letters(text);
+    if count > 0 {
+        return (name_token(&text[..count]), count);
     }
-    if is_arrow_at(text, at) {
-        return (Token::Arrow, at + 2);
+    if text.starts_with(b"->") {
+        return (Token::Arrow, 2);
     }
-    (mark_token(b), at + 1)
+    match text.first() {
+        Some(b) => (mark_token(*b), 1),
+        None => (Token::End, 0),
+    }
 }
 
 impl<'a> Lexer<'a> {
@@ -94,16 +88,9 @@ impl<'a> Lexer<'a> {
         ensures pops { Pops (rest_of self.old) (end_of self.old) result (rest_of self.new) }
         ensures end { end_of self.new ≡ end_of self.old }
     {
-        let at = past(Class::Blank, self.text, self.pos);
-        if at >= self.text.len() {
-            self.pos = at;
-            return Lexeme {
-                at,
-                token: Token::End,
-            };
-        }
-        let (token, end) = token_at(self.text, at);
-        self.pos = end;
+        let at = self.pos + blanks(&self.text[self.pos..]);
+        let (token, length) = first_token(&self.text[at..]);
+        self.pos = at + length;
         Lexeme { at, token }
     }
 }

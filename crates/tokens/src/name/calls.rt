@@ -1,7 +1,6 @@
-// Names from bytes, and their comparison.
+// Names from bytes.
 ghost use Rattle.std.specs.Prelude.{◌≡◌, [], ◌∷◌};
 ghost use Rattle.std.specs.Option.{option_map};
-ghost use Rattle.std.specs.Str.{bytes_eq};
 ghost use Rattle.tokens.specs.Bytes.{letter, all_letters};
 ghost use Rattle.tokens.specs.Names.{name_bytes, name_reply};
 
@@ -11,22 +10,13 @@ use bounded::ArrayVec;
 pub(crate) fn is_letter(b: u8) -> bool
     ensures { result ≡ letter b }
 {
-    b >= b'a' && b <= b'z'
-        || b >= b'A' && b <= b'Z'
-        || b >= b'0' && b <= b'9'
-        || b == b'_'
-        || b == b'\''
+    b.is_ascii_alphanumeric() || b == b'_' || b == b'\''
 }
 
 fn are_letters(bytes: &[u8]) -> bool
     ensures { result ≡ all_letters bytes.now }
 {
-    for b in bytes {
-        if !is_letter(*b) {
-            return false;
-        }
-    }
-    true
+    bytes.iter().all(|b| is_letter(*b))
 }
 
 impl Name {
@@ -34,38 +24,24 @@ impl Name {
     pub fn new(bytes: &[u8]) -> Option<Name>
         ensures { option_map name_bytes result ≡ name_reply bytes.now }
     {
-        if bytes.len() == 0 {
+        if bytes.is_empty() || !are_letters(bytes) {
             return None;
         }
-        if !are_letters(bytes) {
-            return None;
-        }
-        let mut kept = ArrayVec::new(0);
-        if !kept.extend(bytes) {
-            return None;
-        }
-        Some(Name { bytes: kept })
+        let bytes = ArrayVec::from_slice(0, bytes).ok()?;
+        Some(Name { bytes })
     }
 
     // The name _, for memory that holds no name yet.
     pub fn placeholder() -> Name
         ensures { name_bytes result ≡ 95 ∷ [] }
     {
-        let mut kept = ArrayVec::new(0);
-        kept.push(b'_');
-        Name { bytes: kept }
+        let bytes = ArrayVec::from_slice(0, b"_").unwrap();
+        Name { bytes }
     }
 
     pub fn bytes(&self) -> &[u8]
         ensures { result.now ≡ name_bytes self.now }
     {
         self.bytes.as_slice()
-    }
-
-    // The same exactly if length and all bytes agree.
-    pub fn same(&self, other: &Name) -> bool
-        ensures { result ≡ bytes_eq (name_bytes self.now) (name_bytes other.now) }
-    {
-        self.bytes() == other.bytes()
     }
 }

@@ -3,28 +3,24 @@ ghost use Rattle.std.specs.Prelude.{◌≡◌, ◌≤◌, length};
 ghost use Rattle.std.specs.Option.{option_map};
 ghost use Rattle.bounded.specs.Items.{items};
 ghost use Rattle.terms.specs.Models.{arities_of};
-ghost use Rattle.vocabulary.specs.Vocabularies.{fixed_arities};
+ghost use Rattle.vocabulary.specs.Vocabularies.{symbol_arities, fixed_arities};
 ghost use Rattle.vocabulary.specs.Models.{vocabulary_of};
 ghost use Rattle.vocabulary.specs.Naming.{naming_of, naming_reply};
 
 use crate::names::Names;
+use crate::symbol::Symbol;
 use crate::vocabulary::Vocabulary;
 use bounded::ArrayVec;
 use terms::Signature;
 
 // The arities, if every one is fixed.
-fn fixed(arities: &[Option<u8>]) -> Option<ArrayVec<u8, 32>>
-    requires { length arities.now ≤ 32 }
-    ensures { option_map items result ≡ fixed_arities arities.now }
+fn fixed(symbols: &[Symbol]) -> Option<ArrayVec<u8, 32>>
+    requires { length symbols.now ≤ 32 }
+    ensures { option_map items result ≡ fixed_arities (symbol_arities symbols.now) }
 {
     let mut numbers = ArrayVec::new(0);
-    for arity in arities {
-        match arity {
-            Some(number) => {
-                let _ = numbers.push(*number);
-            }
-            None => return None,
-        }
+    for symbol in symbols {
+        numbers.push(symbol.arity?).unwrap();
     }
     Some(numbers)
 }
@@ -34,14 +30,12 @@ impl Names {
     pub fn new(vocabulary: Vocabulary) -> Option<Names>
         ensures { option_map naming_of result ≡ naming_reply (vocabulary_of vocabulary) }
     {
-        let numbers = fixed(vocabulary.arities())?;
-        match Signature::new(numbers.as_slice()) {
-            Ok(signature) => Some(Names {
-                vocabulary,
-                signature,
-            }),
-            Err(_) => unreachable(),
-        }
+        let numbers = fixed(vocabulary.symbols())?;
+        let signature = Signature::new(numbers.as_slice()).unwrap();
+        Some(Names {
+            vocabulary,
+            signature,
+        })
     }
 
     pub fn vocabulary(&self) -> &Vocabulary

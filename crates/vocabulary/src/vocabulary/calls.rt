@@ -1,82 +1,73 @@
 // What names stand for, and how a vocabulary grows: a refusal leaves it as it is.
-ghost use Rattle.std.specs.Prelude.{◌≡◌, length, is_some, is_ok, if◌then◌else◌};
+ghost use Rattle.std.specs.Prelude.{◌≡◌, ◌<◌, length, IfSome, is_some, is_ok, position, if◌then◌else◌};
+ghost use Rattle.std.specs.Str.{bytes_eq};
 ghost use Rattle.tokens.specs.Names.{name_bytes};
 ghost use Rattle.std.specs.Option.{option_map};
-ghost use Rattle.vocabulary.specs.Vocabularies.{names, found, code_of, arity_of, empty, with_symbol, with_arity, with_variable};
+ghost use Rattle.vocabulary.specs.Vocabularies.{names, symbol_names, symbol_arities, code_of, arity_of, empty, with_symbol, with_arity, with_variable};
 ghost use Rattle.vocabulary.specs.Models.{vocabulary_of};
-ghost use Rattle.vocabulary.specs.Replies.{entry, name_at, declare_reply, number_reply, settle_reply, numbered, settled};
+ghost use Rattle.vocabulary.specs.Replies.{name_at, declare_reply, number_reply, settle_reply, numbered, settled};
 ghost use Rattle.vocabulary.specs.Laws.{CodeExactly, NameExactly, Keeps};
 
 use crate::flaw::Flaw;
+use crate::symbol::Symbol;
 use crate::vocabulary::Vocabulary;
 use bounded::ArrayVec;
+use terms::{Code, FIRST_VARIABLE, MOST_ARGUMENTS};
 use tokens::Name;
 
 // The number of the first of the known names that is this one.
 fn find(known: &[Name], name: &Name) -> Option<usize>
-    ensures { result ≡ found 0 (names known.now) (name_bytes name.now) }
+    ensures is { result ≡ position (λ x. bytes_eq (name_bytes x) (name_bytes name.now)) known.now }
+    ensures within { IfSome result (λ i. i < length known.now) }
 {
-    for (i, other) in known.iter().enumerate() {
-        if other.same(name) {
-            return Some(i);
-        }
-    }
-    None
+    known.iter().position(|other| other == name)
 }
 
-fn entry(known: &[Name], number: usize) -> Option<Name>
-    ensures { option_map name_bytes result ≡ entry (names known.now) number }
+fn find_symbol(known: &[Symbol], name: &Name) -> Option<usize>
+    ensures is { result ≡ position (λ s. bytes_eq (name_bytes s.name) (name_bytes name.now)) known.now }
+    ensures within { IfSome result (λ i. i < length known.now) }
 {
-    if number < known.len() {
-        Some(known[number])
-    } else {
-        None
-    }
+    known.iter().position(|symbol| symbol.name == *name)
 }
 
 impl Vocabulary {
     pub fn new() -> Self
         ensures { vocabulary_of result ≡ empty }
     {
+        let name = Name::placeholder();
         Vocabulary {
-            symbols: ArrayVec::new(Name::placeholder()),
-            arities: ArrayVec::new(None),
-            variables: ArrayVec::new(Name::placeholder()),
+            symbols: ArrayVec::new(Symbol { name, arity: None }),
+            variables: ArrayVec::new(name),
         }
     }
 
-    // The code that a name stands for: 32,768 and a variable's number, or a symbol's number.
+    // The code that a name stands for: a declared name is always the variable.
+    #[tactic(auto, using(bounded::proofs::Lengths::items_few))]
     pub fn code_of(&self, name: &Name) -> Option<u16>
         ensures value { result ≡ code_of (vocabulary_of self.now) (name_bytes name.now) }
         ensures means { CodeExactly (vocabulary_of self.now) (name_bytes name.now) result }
     {
         if let Some(variable) = find(self.variables.as_slice(), name) {
-            return Some(32768 + variable as u16);
+            return Some(FIRST_VARIABLE + variable as u16);
         }
-        match find(self.symbols.as_slice(), name) {
-            Some(symbol) => Some(symbol as u16),
-            None => None,
-        }
+        let symbol = find_symbol(self.symbols.as_slice(), name)?;
+        Some(symbol as u16)
     }
 
-    // The arity of each symbol, once it is fixed.
-    pub fn arities(&self) -> &[Option<u8>]
-        ensures { result.now ≡ (vocabulary_of self.now).arities }
+    // The symbols, by number.
+    pub fn symbols(&self) -> &[Symbol]
+        ensures names { names (symbol_names result.now) ≡ (vocabulary_of self.now).symbols }
+        ensures arities { symbol_arities result.now ≡ (vocabulary_of self.now).arities }
     {
-        self.arities.as_slice()
+        self.symbols.as_slice()
     }
 
     // A symbol's arity, once it is fixed.
     pub fn arity_of(&self, symbol: u16) -> Option<u8>
         ensures { result ≡ arity_of (vocabulary_of self.now) symbol }
     {
-        let arities = self.arities.as_slice();
-        let symbol = symbol as usize;
-        if symbol < arities.len() {
-            arities[symbol]
-        } else {
-            None
-        }
+        let symbol = self.symbols.as_slice().get(symbol as usize);
+        symbol.and_then(|symbol| symbol.arity)
     }
 
     // The name that a code has.
@@ -84,10 +75,12 @@ impl Vocabulary {
         ensures value { option_map name_bytes result ≡ name_at (vocabulary_of self.now) code }
         ensures means { NameExactly (vocabulary_of self.now) code (option_map name_bytes result) }
     {
-        if code < 32768 {
-            entry(self.symbols.as_slice(), code as usize)
-        } else {
-            entry(self.variables.as_slice(), (code - 32768) as usize)
+        match Code::from(code) {
+            Code::Symbol(symbol) => {
+                let symbol = self.symbols.as_slice().get(symbol as usize);
+                symbol.map(|symbol| symbol.name)
+            }
+            Code::Variable(variable) => self.variables.as_slice().get(variable as usize).copied(),
         }
     }
 
@@ -98,17 +91,11 @@ impl Vocabulary {
         ensures keeps { Keeps (vocabulary_of self.old) (vocabulary_of self.new) }
     {
         let mut variables = self.variables;
-        if !variables.push(*name) {
-            return Err(Flaw::TooMany);
-        }
+        variables.push(*name)?;
         if self.code_of(name).is_some() {
             return Err(Flaw::DeclaredTwice);
         }
-        *self = Vocabulary {
-            symbols: self.symbols,
-            arities: self.arities,
-            variables,
-        };
+        self.variables = variables;
         Ok(())
     }
 
@@ -121,18 +108,11 @@ impl Vocabulary {
         if let Some(code) = self.code_of(name) {
             return Ok(code);
         }
-        let mut symbols = self.symbols;
-        let mut arities = self.arities;
-        let next = symbols.as_slice().len();
-        if !symbols.push(*name) {
-            return Err(Flaw::TooMany);
-        }
-        arities.push(None);
-        *self = Vocabulary {
-            symbols,
-            arities,
-            variables: self.variables,
-        };
+        let next = self.symbols.as_slice().len();
+        self.symbols.push(Symbol {
+            name: *name,
+            arity: None,
+        })?;
         Ok(next as u16)
     }
 
@@ -142,25 +122,20 @@ impl Vocabulary {
         ensures after { vocabulary_of self.new ≡ settled (vocabulary_of self.old) symbol count }
         ensures keeps { Keeps (vocabulary_of self.old) (vocabulary_of self.new) }
     {
-        if symbol as usize >= self.symbols.as_slice().len() {
-            return Err(Flaw::UnknownName);
-        }
-        if let Some(arity) = self.arity_of(symbol) {
+        let place = symbol as usize;
+        let known = self.symbols.as_slice().get(place).copied();
+        let known = known.ok_or(Flaw::UnknownName)?;
+        if let Some(arity) = known.arity {
             if arity == count {
                 return Ok(());
             }
             return Err(Flaw::Arguments);
         }
-        if count > 4 {
+        if count > MOST_ARGUMENTS {
             return Err(Flaw::Arguments);
         }
-        let mut arities = self.arities;
-        arities.set(symbol as usize, Some(count));
-        *self = Vocabulary {
-            symbols: self.symbols,
-            arities,
-            variables: self.variables,
-        };
+        let arity = Some(count);
+        self.symbols.set(place, Symbol { arity, ..known });
         Ok(())
     }
 }

@@ -1,12 +1,12 @@
-use Rattle.terms.specs.Models.{arities_of}
+use Rattle.std.proofs.Common.{◌≡◌, rules}
+use Rattle.terms.specs.Models.{all_sides}
 use Rattle.terms.specs.Systems.{signature_of, listed_rules}
-use Rattle.algebras.proofs.Passing.{review_law, review_fit}
+use Rattle.algebras.specs.Reviews.{review_reply}
+use Rattle.algebras.proofs.Passing.{review_law}
 use Rattle.algebras.proofs.reviewing.review.Goals as goal
 
-pub returns : goal.returns
-returns g c =
-    let A = g.A.Algebra.means c.args.algebra.now in
+pub returns-clause-exactly : goal.returns-clause-exactly
+returns-clause-exactly g c =
     let s = c.args.system.now in
-    let v = review_fit A (signature_of s) (listed_rules s) (arities_of c.signature-signature.result.now) c.rules.result.now c.review_rules.result c.signature-signature.ensures c.rules.ensures
-    c.if-not-fits.ensures c.review_rules.ensures in
-    record { value = v; exactly = review_law A (g.met.A.Algebra.lawful c.args.algebra.now) s c.review_rules.result v }
+    let value : c.review_rules.result ≡ review_reply (g.A.Algebra.means c.args.algebra.now) (signature_of s) (all_sides (listed_rules s)) = search rules in
+    review_law _ (g.met.A.Algebra.lawful c.args.algebra.now) s _ value

@@ -1,29 +1,21 @@
-use Rattle.std.proofs.Common.{◌≡◌, ◌+◌, ◌<◌, ◌++◌, length, take, sym, refl, ap, ◌∙◌, arith}
-use Rattle.std.proofs.lemmas.List.{take_all}
+use Rattle.std.proofs.Common.{◌+◌, ◌-◌, ◌++◌, length, take, ap, ◌∙◌, sym, arith}
+use Rattle.std.proofs.lemmas.Slice.{take-put_mid}
 use Rattle.bounded.specs.Items.{items}
-use Rattle.bounded.proofs.Lengths.{has_room, lacks_room, written_none, written_more}
+use Rattle.bounded.proofs.Lengths.{has_room, lacks_room}
 use Rattle.bounded.proofs.array_vec.ArrayVec.extend.Goals as goal
 
-pub returns-then-more-start : goal.returns-then-more-start
-returns-then-more-start g c = record { fits = lacks_room c.args.self.now c.args.more.now (omega arith); items = refl }
+pub returns-then-more-start-clause-fits : goal.returns-then-more-start-clause-fits
+returns-then-more-start-clause-fits g c = lacks_room c.args.self.now c.args.more.now (omega arith)
 
-pub loop-i-init : goal.loop-i-init
-loop-i-init g c = written_none c.args.self.now.slots c.args.more.now c.args.self.now.len
+pub returns-clause-fits : goal.returns-clause-fits
+returns-clause-fits g c = has_room c.args.self.now c.args.more.now (omega arith)
 
-pub loop-i-preserved : goal.loop-i-preserved
-loop-i-preserved g c =
-    let w = c.loop-i.self.whole in
-    let inside : c.args.self.now.len + c.loop-i.i < length c.loop-i.self.slots = omega arith in
-    written_more c.args.self.now.slots c.loop-i.self.slots c.args.more.now c.args.self.now.len c.loop-i.i c.index-more-i.result
-    inside c.loop-i-test.true c.index-more-i.is c.loop-i.invariant
-
-pub returns : goal.returns
+pub returns-clause-items : goal.returns-clause-items
 unfolding items
-returns g c =
-    let more = c.args.more.now in
-    let front = take c.args.self.now.len c.args.self.now.slots in
-    let end : c.loop-i.i ≡ length more = omega arith in
-    record {
-      fits = has_room c.args.self.now more (omega arith);
-      items = ap (λ n. take (c.args.self.now.len + n) c.loop-i.self.slots) (sym end) ∙ c.loop-i.invariant ∙ ap (λ l. front ++ l) (take_all c.loop-i.i more (omega arith));
-    }
+returns-clause-items g c =
+    let v = c.args.self.now in
+    let whole = v.whole in
+    let within = v.within in
+    let new = c.copy_from_slice.ensures.after in
+    take-put_mid v.len (v.len + length c.args.more.now - v.len) v.slots c.copy_from_slice.new.self (v.len + length c.args.more.now) (ap (λ l. v.len + length l) (sym new)) (omega arith)
+    ∙ ap (λ l. take v.len v.slots ++ l) new

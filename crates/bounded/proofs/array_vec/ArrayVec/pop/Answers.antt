@@ -3,10 +3,6 @@ use Rattle.std.proofs.lemmas.List.{take_more}
 use Rattle.bounded.specs.Items.{items}
 use Rattle.bounded.proofs.array_vec.ArrayVec.pop.Goals as goal
 
-pub returns-then-self-eq0 : goal.returns-then-self-eq0
-unfolding items
-returns-then-self-eq0 g c = let e = ap (λ n. take n c.args.self.now.slots) c.if-self-eq0.true in (e, e)
-
 pub returns : goal.returns
 unfolding items
 returns g c =

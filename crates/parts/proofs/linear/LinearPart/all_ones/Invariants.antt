@@ -1,7 +1,6 @@
-use Rattle.std.proofs.Common.{ℕ, ◌<◌, T, eqb, [], get_or}
-use Rattle.terms.specs.Models.{arities_of}
+use Rattle.std.proofs.Common.{eqb, get_or, min}
 use Rattle.interpretations.specs.Numbers.{every}
 use Rattle.parts.proofs.linear.LinearPart.all_ones.Given as goal
 
-abbrev pub invariant-loop-f : goal.invariant-loop-f
-invariant-loop-f l = (f : ℕ) → f < l.f → T (every (get_or (arities_of l.self.signature) f 0) (λ k. eqb (get_or (get_or l.self.factors f []) k 0) 1))
+abbrev pub ghost-all_symbols : goal.ghost-all_symbols
+ghost-all_symbols a = λ symbol arity. every (min arity 4) (λ k. eqb (get_or symbol.factors k 0) 1)

@@ -1,16 +1,19 @@
-use Rattle.std.proofs.Common.{◌≡◌, max, length, get_or, sym, ap, ◌∙◌, arith}
+use Rattle.std.proofs.Common.{ℕ, [], length, sym, unwrap_or, ap, ◌∙◌, arith, rules}
+use Rattle.std.proofs.lemmas.Iterator.{YieldsList-from_map, YieldsList-from_slice, YieldsList-from_take}
+use Rattle.std.proofs.lemmas.Iterator.Adapters.{option_map_id}
+use Rattle.std.proofs.lemmas.Iterator.Consumers.{max_from_yields_List}
 use Rattle.terms.specs.Models.{arities_of}
-use Rattle.interpretations.specs.Numbers.{largest}
-use Rattle.interpretations.proofs.Tests.{largest_more}
+use Rattle.interpretations.proofs.Tests.{largest-reduce}
+use Rattle.parts.specs.declared.linear.LinearSymbol.{LinearSymbol}
+use Rattle.parts.specs.MakingLemmas.{few}
 use Rattle.parts.proofs.linear.LinearPart.largest.Goals as goal
-
-pub loop-f-preserved : goal.loop-f-preserved
-loop-f-preserved c =
-    let cs = c.args.self.now.constants in
-    c.larger-best.ensures ∙ ap (λ n. max n (get_or cs c.loop-f.f 0)) c.loop-f.invariant ∙ sym (largest_more c.loop-f.f (λ f. get_or cs f 0))
 
 pub returns : goal.returns
 returns c =
-    let cs = c.args.self.now.constants in
-    let all : c.loop-f.f ≡ length (arities_of c.args.self.now.signature) = let e = ap length c.arities-f-end.ensures in omega arith in
-    c.loop-f.invariant ∙ ap (λ n. largest n (λ f. get_or cs f 0)) all
+    let s = c.args.self.now.signature in
+    let symbols = c.args.self.now.symbols in
+    let constant : LinearSymbol → ℕ = λ symbol. symbol.constant in
+    let n = length (arities_of s) in
+    c.unwrap_or.ensures
+    ∙ ap (λ o. unwrap_or o 0) (sym (option_map_id _) ∙ max_from_yields_List _ _ c.max.ensures.ran (YieldsList-from_map _ constant (YieldsList-from_take n (YieldsList-from_slice symbols (cc)) (cc)) (cc) (λ x r q k. search rules)))
+    ∙ largest-reduce constant record { constant = 0; factors = [] } n symbols (omega (arith, few s))

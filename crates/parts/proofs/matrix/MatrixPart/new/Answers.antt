@@ -1,26 +1,21 @@
-use Rattle.std.proofs.Common.{◌<◌, T, sym, refl, ◌∙◌, arith}
-use Rattle.terms.specs.Models.{arities_of}
+use Rattle.std.proofs.Common.{◌<◌, sym, refl, ◌∙◌, arith}
 use Rattle.terms.proofs.Booleans.{held}
-use Rattle.interpretations.specs.Parts.{Part}
-use Rattle.parts.specs.Kinds.{matrix_part, positive}
-use Rattle.parts.specs.MakingLemmas.{positive_is, monotone_from, not_monotone}
+use Rattle.parts.specs.MakingLemmas.{matrix_positive, monotone_from, not_monotone}
 use Rattle.parts.proofs.matrix.MatrixPart.new.Goals as goal
 
-pub returns-then-not-is_positive : goal.returns-then-not-is_positive
-returns-then-not-is_positive c =
-    let P : Part = matrix_part (arities_of c.args.signature) c.args.dimension c.args.constants c.args.matrices in
-    λ m d. not_monotone P (sym c.if-not-is_positive.true ∙ positive_is P c.is_positive.result c.is_positive.ensures) m
+pub returns-then-not-all_symbols : goal.returns-then-not-all_symbols
+returns-then-not-all_symbols c =
+    let told = matrix_positive c.args.signature c.args.dimension c.args.symbols c.all_symbols.result (omega arith) c.all_symbols.ensures in
+    λ m d. not_monotone _ (sym c.if-not-all_symbols.true ∙ told) m
 
 pub invariant_of-result : goal.invariant_of-result
 invariant_of-result c =
-    let P : Part = matrix_part (arities_of c.args.signature) c.args.dimension c.args.constants c.args.matrices in
+    let told = matrix_positive c.args.signature c.args.dimension c.args.symbols c.all_symbols.result (omega arith) c.all_symbols.ensures in
     let some : 0 < c.args.dimension = omega arith in
-    let is : T (positive P) = held (positive P) (sym (positive_is P c.is_positive.result c.is_positive.ensures) ∙ c.if-not-is_positive.false) in
-    record { some = some; narrow = omega arith; tops = is }
+    record { some = some; narrow = omega arith; tops = held _ (sym told ∙ c.if-not-all_symbols.false) }
 
 pub returns : goal.returns
 returns c =
-    let P : Part = matrix_part (arities_of c.args.signature) c.args.dimension c.args.constants c.args.matrices in
+    let told = matrix_positive c.args.signature c.args.dimension c.args.symbols c.all_symbols.result (omega arith) c.all_symbols.ensures in
     let some : 0 < c.args.dimension = omega arith in
-    let is : T (positive P) = held (positive P) (sym (positive_is P c.is_positive.result c.is_positive.ensures) ∙ c.if-not-is_positive.false) in
-    (refl, monotone_from P some is, omega arith)
+    (refl, monotone_from _ some (held _ (sym told ∙ c.if-not-all_symbols.false)), omega arith)

@@ -1,10 +1,6 @@
 use Rattle.algebras.proofs.Telling.{compared_law}
-use Rattle.plugin.specs.Layer.{uncapped_means}
 use Rattle.plugin.specs.Lawful.{uncapped_lawful}
 use Rattle.plugin.proofs.uncapped.UncappedAlgebra.compare.Goals as goal
 
-pub returns : goal.returns
-returns g c =
-    let A = g.A.Algebra.means c.args.self.now.below in
-    let v = c.compare.ensures.value in
-    record { value = v; exactly = compared_law (uncapped_means A) (uncapped_lawful A (g.met.A.Algebra.lawful c.args.self.now.below)) c.args.signature.now c.args.left.now c.args.right.now c.compare.result v }
+pub returns-clause-exactly : goal.returns-clause-exactly
+returns-clause-exactly g c = compared_law _ (uncapped_lawful _ (g.met.A.Algebra.lawful c.args.self.now.below)) c.args.signature.now _ _ _ c.compare.ensures.value

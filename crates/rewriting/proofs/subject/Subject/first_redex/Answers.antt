@@ -1,17 +1,11 @@
-use Rattle.std.proofs.Common.{T, sym, ap, ◌∙◌, subst}
-use Rattle.bounded.specs.Items.{items}
-use Rattle.terms.specs.Codes.{is_term}
-use Rattle.terms.specs.Systems.{signature_of, rules_of}
-use Rattle.rewriting.specs.Searching.{first_redex}
-use Rattle.rewriting.proofs.Looks.{looks}
+use Rattle.std.proofs.Common.{length, ap, rules}
+use Rattle.rewriting.specs.Subjects.{arities_in, rules_in, codes_in}
+use Rattle.rewriting.proofs.Looks.{sought, sought_value, sought_means}
 use Rattle.rewriting.proofs.Systems.{few_in, rules_fine}
 use Rattle.rewriting.proofs.subject.Subject.first_redex.Goals as goal
-
-pub find_redex-requires : goal.find_redex-requires
-find_redex-requires c = subst (λ l. T (is_term (signature_of c.args.self.now.system) l)) (sym c.as_slice.ensures) c.args.self.now.over
 
 pub returns : goal.returns
 returns c =
     let s = c.args.self.now in
-    let v = c.find_redex.ensures ∙ ap (first_redex (signature_of s.system) (rules_of s.system)) c.as_slice.ensures in
-    record { value = v; means = looks (signature_of s.system) (few_in s.system) (rules_of s.system) (rules_fine s.system) (items s.term) s.over c.find_redex.result v }
+    let found = sought _ _ (arities_in s) (rules_in s) (codes_in s) (λ k o q h. search rules) _ (ap length c.codes.ensures) c.find_map.result c.find_map.ensures.runs in
+    record { value = sought_value (arities_in s) (rules_in s) (codes_in s) c.find_map.result found; means = sought_means (arities_in s) (few_in s.system) (rules_in s) (rules_fine s.system) (codes_in s) s.over c.find_map.result found }

@@ -1,18 +1,32 @@
-use Rattle.std.proofs.Common.{◌≡◌, ◌≤◌, ◌&&◌, T, leb, length, sym, ap, ◌∙◌, subst, arith, le→leb}
-use Rattle.terms.specs.Models.{arities_of, all_sides, all_rules}
-use Rattle.terms.proofs.Booleans.{both, told_err}
-use Rattle.texts.specs.Documents.{rules_of}
-use Rattle.texts.proofs.Turning.{rules_length}
-use Rattle.texts.proofs.Assembling.{rules_proper}
+use Rattle.std.proofs.Common.{◌≡◌, ◌<◌, ◌∷◌, [], length, get_or, is_ok, sym, ap, ◌∙◌, ap₂, arith}
+use Rattle.std.proofs.lemmas.Grind.{common_steps}
+use Rattle.std.proofs.lemmas.List.{length-map}
+use Rattle.bounded.specs.Items.{items, grown}
+use Rattle.bounded.proofs.Lengths.{items_few}
+use Rattle.terms.specs.Models.{sides_of, all_sides}
+use Rattle.terms.specs.Replies.{viewed}
+use Rattle.terms.proofs.Booleans.{told_ok}
+use Rattle.texts.proofs.Assembling.{proper_at, rules_more}
 use Rattle.texts.proofs.named_system.calls.system_from.Goals as goal
 
-pub rules_from-rules-requires : goal.rules_from-rules-requires
-rules_from-rules-requires c = record { few = c.requires.few; proper = rules_proper (arities_of c.args.signature.now) (rules_of c.args.codes.now) c.requires.over }
+pub unwrap-rule-requires : goal.unwrap-rule-requires
+unwrap-rule-requires c = grind (arith, common_steps, proper_at)
 
-pub unreachable-requires : goal.unreachable-requires
-unreachable-requires c =
-    let sig = arities_of c.args.signature.now in
-    let ss = all_sides c.as_slice.result.now in
-    let is : rules_of c.args.codes.now ≡ ss = sym (ap all_sides c.as_slice.ensures ∙ c.rules_from-rules.ensures) in
-    let few : length (rules_of c.args.codes.now) ≤ 32 = let a = rules_length c.args.codes.now in let b = c.requires.few in omega arith in
-    told_err (leb (length ss) 32 && all_rules sig ss) (record { arities = sig; rules = ss }) _ _ (subst (λ l. T (leb (length l) 32 && all_rules sig l)) is (both _ _ (le→leb _ _ few) c.requires.over)) c.in-Err.ensures.value
+pub unwrap-requires : goal.unwrap-requires
+unwrap-requires c = grind (arith, common_steps, items_few c.args.codes.now, length-map)
+
+pub loop-sides-preserved : goal.loop-sides-preserved
+loop-sides-preserved c =
+    let xs = items c.args.codes.now in
+    let x = c.sides-item.result in
+    let rs = items c.loop-sides.rules in
+    let rule = c.unwrap-rule.result in
+    let same = c.as_slice-sides-items.ensures in
+    let is : x ≡ get_or xs c.loop-sides.sides-index x = cc in
+    let inside : c.loop-sides.sides-index < length xs = let l = ap length same in omega arith in
+    let made = told_ok _ _ (sides_of rule) _ (ap (viewed sides_of) (sym c.unwrap-rule.ensures) ∙ c.new.ensures) in
+    ap all_sides (c.push.ensures.items ∙ ap (λ r. grown (is_ok r) rs (rule ∷ [])) c.unwrap.ensures)
+    ∙ rules_more xs c.loop-sides.sides-index x is inside rs c.loop-sides.invariant rule (made ∙ ap₂ (λ a b. record { left = a; right = b }) c.as_slice.ensures c.as_slice-in-loop-sides.ensures)
+
+pub unwrap-requires-2 : goal.unwrap-requires-2
+unwrap-requires-2 c = grind (arith, common_steps, items_few c.args.codes.now, length-map)

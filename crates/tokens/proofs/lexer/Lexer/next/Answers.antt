@@ -1,29 +1,20 @@
-use Rattle.std.proofs.Common.{length, sym, refl, ◌∙◌, subst, arith}
-use Rattle.tokens.specs.Lexing.{Taken}
+use Rattle.std.proofs.Common.{◌+◌, length, sym, ap, ◌∙◌, subst}
+use Rattle.std.specs.List.{prefix_len}
+use Rattle.std.proofs.lemmas.List.{take_rest}
+use Rattle.tokens.specs.Bytes.{blank}
+use Rattle.tokens.specs.Lexing.{Taken, first_word, first_length}
 use Rattle.tokens.specs.Tokens.{tokens_from}
-use Rattle.tokens.proofs.Lexes.{left_blanks, at_stop, left_none, left_next}
+use Rattle.tokens.proofs.Lexes.{popped}
 use Rattle.tokens.proofs.lexer.Lexer.next.Goals as goal
 
-pub returns-then-at-self : goal.returns-then-at-self
-returns-then-at-self c =
-    let text = c.args.self.now.text.now in
-    let at = c.past-at.result in
-    let none = left_none text at c.if-at-self.true in
-    let w = c.past-at.ensures.within in
-    record {
-      pops = (left_blanks text _ at c.past-at.ensures.end ∙ none, none, omega arith);
-      end = refl;
-    }
-
-pub returns : goal.returns
-returns c =
+pub returns-clause-pops : goal.returns-clause-pops
+returns-clause-pops c =
     let text = c.args.self.now.text.now in
     let pos = c.args.self.now.pos in
-    let at = c.past-at.result in
-    let end = c.token_at-token.result.1 in
-    let from = c.past-at.ensures.end in
-    let whole = left_blanks text pos at from ∙ left_next text at end c.if-at-self.false (at_stop text pos at from c.if-at-self.false) c.token_at-token.ensures.end in
-    record {
-      pops = subst (Taken (tokens_from text pos) (length text) (tokens_from text end) at) (sym c.token_at-token.ensures.word) whole;
-      end = refl;
-    }
+    let at = pos + c.blanks.result in
+    let found = c.first_token-token.ensures in
+    let blanks = c.blanks.ensures.are ∙ ap (prefix_len blank) (take_rest text pos) in
+    let takes = found.takes ∙ ap first_length (take_rest text at) in
+    let word = found.word ∙ ap first_word (take_rest text at) in
+    subst (Taken (tokens_from text pos) (length text) (tokens_from text (at + c.first_token-token.result.1)) at) (sym word)
+    (popped text pos at _ c.args.self.now.within (ap (λ n. pos + n) blanks) (ap (λ n. at + n) takes))

@@ -1,20 +1,24 @@
-use Rattle.std.proofs.Common.{sym, ap, ◌∙◌}
-use Rattle.std.proofs.lemmas.Bool.{cond-true, le-leb}
+use Rattle.std.proofs.Common.{◌≡◌, true, is_ok, None, rules, ap, ◌∙◌}
+use Rattle.std.specs.Option.{option_map}
+use Rattle.std.proofs.lemmas.Bool.{le-leb}
 use Rattle.bounded.specs.Items.{items}
-use Rattle.vocabulary.proofs.Fixing.{somes, somes_more, somes_stop, somes_end, somes-room}
+use Rattle.vocabulary.proofs.Fixing.{one_more, one_open, one_fits, all_closed}
 use Rattle.vocabulary.proofs.names.calls.fixed.Goals as goal
 
-pub loop-arity-init : goal.loop-arity-init
-loop-arity-init c = ap somes (sym c.new-numbers.ensures)
+pub returns-in_err-symbol : goal.returns-in_err-symbol
+returns-in_err-symbol c =
+    ap (option_map items) {y = None} (search rules)
+    ∙ one_open c.args.symbols.now c.loop-symbol.symbol-index (items c.loop-symbol.numbers) c.loop-symbol.invariant c.symbol-item.result c.loop-symbol-test.true c.symbol-item.is (search rules)
 
-pub returns-in-None : goal.returns-in-None
-returns-in-None c = somes_stop c.args.arities.now c.loop-arity.arity-index _ c.loop-arity-test.true c.in-None.is c.loop-arity.invariant
+pub unwrap-requires : goal.unwrap-requires
+unwrap-requires c =
+    let few = one_fits c.args.symbols.now c.loop-symbol.symbol-index (items c.loop-symbol.numbers) c.loop-symbol.invariant c.symbol-item.result c.loop-symbol-test.true c.symbol-item.is c.requires in
+    let fits : is_ok c.push.result ≡ true = c.push.ensures.fits ∙ le-leb _ 32 few in
+    search rules
 
-pub loop-arity-preserved : goal.loop-arity-preserved
-loop-arity-preserved c =
-    let room = somes-room c.args.arities.now c.loop-arity.arity-index (items c.loop-arity.numbers) c.loop-arity-test.true c.requires c.loop-arity.invariant in
-    somes_more c.args.arities.now c.loop-arity.arity-index (items c.loop-arity.numbers) (items c.push.new.self) c.in-Some.number c.loop-arity-test.true c.in-Some.is c.loop-arity.invariant
-    (c.push.ensures.items ∙ cond-true _ _ _ (c.push.ensures.fits ∙ le-leb _ _ room))
+pub loop-symbol-preserved : goal.loop-symbol-preserved
+loop-symbol-preserved c =
+    one_more c.args.symbols.now c.loop-symbol.symbol-index (items c.loop-symbol.numbers) c.loop-symbol.invariant c.symbol-item.result c.loop-symbol-test.true c.symbol-item.is (items c.push.new.self) c.in_ok-symbol.field-0 (search rules) (search rules)
 
 pub returns : goal.returns
-returns c = somes_end c.args.arities.now c.loop-arity.arity-index _ c.loop-arity-test.false c.loop-arity.invariant
+returns c = all_closed c.args.symbols.now c.loop-symbol.symbol-index (items c.loop-symbol.numbers) c.loop-symbol.invariant c.loop-symbol-test.false

@@ -1,7 +1,8 @@
 use Rattle.std.proofs.Common.{◌≡◌, take}
 use Rattle.bounded.specs.Items.{items}
+use Rattle.vocabulary.specs.Vocabularies.{symbol_arities}
 use Rattle.vocabulary.proofs.Fixing.{somes}
 use Rattle.vocabulary.proofs.names.calls.fixed.Given as goal
 
-abbrev pub invariant-loop-arity : goal.invariant-loop-arity
-invariant-loop-arity l = take l.arity-index l.arities ≡ somes (items l.numbers)
+abbrev pub invariant-loop-symbol : goal.invariant-loop-symbol
+invariant-loop-symbol l = take l.symbol-index (symbol_arities l.symbols) ≡ somes (items l.numbers)

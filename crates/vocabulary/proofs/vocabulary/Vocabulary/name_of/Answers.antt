@@ -1,22 +1,29 @@
-use Rattle.std.proofs.Common.{◌-◌, sym, ap, ◌∙◌, arith}
-use Rattle.std.proofs.lemmas.Bool.{cond-true, cond-false, lt-ltb, le-ltb}
-use Rattle.vocabulary.specs.Vocabularies.{names}
+use Rattle.std.proofs.Common.{◌≡◌, rules, ◌∙◌, ap, arith}
+use Rattle.std.specs.List.{slice_get}
+use Rattle.std.specs.Option.{option_map}
+use Rattle.std.proofs.lemmas.Grind.{common_steps}
+use Rattle.std.proofs.lemmas.Option.{gets}
+use Rattle.bounded.specs.Items.{items}
+use Rattle.tokens.specs.Names.{name_bytes}
+use Rattle.vocabulary.specs.declared.symbol.Symbol.{Symbol}
 use Rattle.vocabulary.specs.Models.{vocabulary_of}
-use Rattle.vocabulary.specs.Replies.{entry}
 use Rattle.vocabulary.proofs.Calls.{few_symbols}
+use Rattle.vocabulary.proofs.Lookups.{symbol_named, variable_named}
 use Rattle.vocabulary.proofs.Consistency.{name_exactly}
 use Rattle.vocabulary.proofs.vocabulary.Vocabulary.name_of.Goals as goal
 
-pub returns-then-code-lt32768 : goal.returns-then-code-lt32768
-returns-then-code-lt32768 c =
+pub returns-in-Symbol : goal.returns-in-Symbol
+returns-in-Symbol c =
     let s = c.args.self.now in
     let few = few_symbols s in
-    let v = c.entry.ensures ∙ ap (λ l. entry (names l) c.args.code) c.as_slice.ensures ∙ sym (cond-true _ _ _ (lt-ltb _ _ c.if-code-lt32768.true)) in
+    let got : option_map name_bytes c.map.result ≡ option_map (λ (x : Symbol). name_bytes x.name) (slice_get (items s.symbols) c.in-Symbol.symbol) = grind (arith, common_steps, gets) in
+    let v = got ∙ symbol_named (items s.symbols) (items s.variables) c.args.code _ (search rules) in
     record { value = v; means = name_exactly (vocabulary_of s) (omega arith) c.args.code _ v }
 
-pub returns-else-code-lt32768 : goal.returns-else-code-lt32768
-returns-else-code-lt32768 c =
+pub returns-in-Variable : goal.returns-in-Variable
+returns-in-Variable c =
     let s = c.args.self.now in
     let few = few_symbols s in
-    let v = c.entry-else-code-lt32768.ensures ∙ ap (λ l. entry (names l) (c.args.code - 32768)) c.as_slice-else-code-lt32768.ensures ∙ sym (cond-false _ _ _ (le-ltb _ _ c.if-code-lt32768.false)) in
+    let got : c.copied.result ≡ slice_get (items s.variables) c.in-Variable.variable = grind (arith, common_steps, gets) in
+    let v = ap (option_map name_bytes) got ∙ variable_named (items s.symbols) (items s.variables) c.args.code _ (search rules) in
     record { value = v; means = name_exactly (vocabulary_of s) (omega arith) c.args.code _ v }

@@ -1,24 +1,17 @@
-use Rattle.std.proofs.Common.{◌≡◌, ◌+◌, ◌≤◌, true, leb, ap₂, arith}
-use Rattle.std.proofs.ByRecursion.{All-weaker}
-use Rattle.std.proofs.lemmas.Bool.{leb-true}
+use Rattle.std.proofs.Common.{◌≡◌, ◌+◌, Bool, true, false, cond, leb, Some, None, sym, refl, ap, ap₂, ◌∙◌}
+use Rattle.std.specs.Bool.{then_some}
+use Rattle.terms.specs.Models.{arities_of}
 use Rattle.algebras.specs.Meanings.{reach}
-use Rattle.parts.specs.Columned.{number_made, number_refused}
-use Rattle.parts.specs.MakingLemmas.{few, low}
+use Rattle.evaluation.specs.Structures.{tested}
+use Rattle.parts.proofs.Weighing.{linear-dotted}
 use Rattle.parts.proofs.linear.calls.LinearPartReckoning.combine.Goals as goal
 
-pub weigh-requires : goal.weigh-requires
-weigh-requires c =
-    let s = c.args.self.now.signature in
-    let most = few s in
-    let short = low s c.args.symbol in
-    record {
-      known = omega arith;
-      few = omega arith;
-      small = All-weaker (λ v. leb v reach ≡ true) (λ v. v ≤ reach) (λ v e. leb-true v reach e) c.args.args.now c.requires.tested;
-    }
+then_some-cond : {X : Type 0} (b : Bool) (x : X) → then_some b x ≡ cond b (Some x) None
+then_some-cond true x = refl
+then_some-cond false x = refl
 
-pub returns-then-value-le-REACH : goal.returns-then-value-le-REACH
-returns-then-value-le-REACH c = number_made _ _ (ap₂ (λ x y. x + y) c.base.ensures c.weigh.ensures.sum) (omega arith)
-
-pub returns-else-value-le-REACH : goal.returns-else-value-le-REACH
-returns-else-value-le-REACH c = number_refused _ (omega (arith, c.base.ensures, c.weigh.ensures.sum))
+pub returns : goal.returns
+returns c =
+    let p = c.args.self.now in
+    let sum = ap₂ (λ x y. x + y) c.base.ensures (c.dot.ensures.sum ∙ sym (linear-dotted (arities_of p.signature) p.symbols c.args.symbol c.args.args.now)) in
+    c.then_some.ensures ∙ then_some-cond (leb (c.base.result + c.dot.result) reach) (c.base.result + c.dot.result) ∙ ap (tested (λ n. leb n reach)) sum

@@ -1,0 +1,7 @@
+use Rattle.std.proofs.Common.{ltb, get_or, min}
+use Rattle.interpretations.specs.Numbers.{every}
+use Rattle.parts.specs.Kinds.{matrix_row}
+use Rattle.parts.proofs.matrix.MatrixPart.new.Given as goal
+
+abbrev pub ghost-all_symbols : goal.ghost-all_symbols
+ghost-all_symbols a = λ symbol arity. every (min arity 4) (λ k. ltb 0 (get_or (matrix_row symbol k 0) 0 0))

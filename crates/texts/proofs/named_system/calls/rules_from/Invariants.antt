@@ -1,8 +1,0 @@
-use Rattle.std.proofs.Common.{◌≡◌, take}
-use Rattle.bounded.specs.Items.{items}
-use Rattle.terms.specs.Models.{all_sides}
-use Rattle.texts.specs.Documents.{rules_of}
-use Rattle.texts.proofs.named_system.calls.rules_from.Given as goal
-
-abbrev pub invariant-loop-sides : goal.invariant-loop-sides
-invariant-loop-sides l = all_sides (items l.rules) ≡ rules_of (take l.sides-index l.codes)

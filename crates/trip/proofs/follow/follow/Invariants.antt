@@ -1,5 +1,0 @@
-use Rattle.trip.proofs.Following.{Following}
-use Rattle.trip.proofs.follow.follow.Given as goal
-
-abbrev pub invariant-loop-steps : goal.invariant-loop-steps
-invariant-loop-steps l = Following l.initial.subject l.subject l.steps

@@ -1,0 +1,34 @@
+-- What a trip is: steps at first redexes, one behind the other.
+use Rattle.std.specs.Prelude.{◌≡◌, ℕ, ◌<◌, List, length, Option, Some, None, Result, Ok, Err}
+use Rattle.terms.specs.Limits.{most_term}
+use Rattle.terms.specs.Terms.{Term, size}
+use Rattle.terms.specs.Rules.{Rule}
+use Rattle.terms.specs.Steps.{Step, Derivation, Normal, First}
+use Rattle.rewriting.specs.declared.fault.RewriteFault.{RewriteFault}
+use Rattle.rewriting.specs.declared.fault.RewriteFault.TheVariants.{TooLong}
+use Rattle.trips.specs.declared.End.{End}
+use Rattle.trips.specs.declared.End.TheVariants as end
+use Rattle.trips.specs.declared.Trip.{Trip}
+
+-- a step from t by its first redex would lead to a term that is too long
+abbrev pub Overlong : List Rule → Term → Type 0
+Overlong rules t = (at n : ℕ) × (v : Term) × First rules t at n × Step rules n at t v × (most_term < size v)
+
+-- from t to u by the first redex, or not at all
+abbrev pub Advanced : List Rule → Term → Result (Option (ℕ × ℕ)) RewriteFault → Term → Type 0
+Advanced rules t (Ok (Some (at, n))) u = First rules t at n × Step rules n at t u
+Advanced rules t (Ok None) u = (u ≡ t) × Normal rules t
+Advanced rules t (Err fault) u = (fault ≡ TooLong) × (u ≡ t) × Overlong rules t
+
+-- what the end of a trip says of its last term
+abbrev pub Ended : List Rule → Term → End → Type 0
+Ended rules u end.Normal = Normal rules u
+Ended rules u end.More = Unit {0}
+Ended rules u end.TooLong = Overlong rules u
+
+-- a derivation from the first term to the last, with as many steps as were counted
+pub record Followed (rules : List Rule) (t : Term) (trip : Trip) (u : Term) : Type 0 where
+  pub numbers : List ℕ
+  pub derivation : Derivation rules t numbers u
+  pub counted : length numbers ≡ trip.steps
+  pub ended : Ended rules u trip.end

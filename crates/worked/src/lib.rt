@@ -1,0 +1,16 @@
+// The worked cases on codes: questions over addition, asked of the code and of the definitions.
+#![tactic(auto)]
+
+ghost use Rattle.std.specs.Prelude.{◌≡◌};
+ghost use Rattle.worked.specs.Cases.{AllHold, worked};
+
+mod list;
+mod question;
+
+pub use list::{Case, worked_cases};
+pub use question::Question;
+
+// What the definitions say of every worked case.
+pub fn worked_cases_hold()
+    ensures { AllHold worked }
+{}
