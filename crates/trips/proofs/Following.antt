@@ -12,7 +12,7 @@ use Rattle.rewriting.proofs.Stepwise.{numbered_below, step_inside}
 use Rattle.rewriting.specs.declared.subject.Subject.{Subject}
 use Rattle.rewriting.specs.Subjects.{rules_in, term_in}
 use Rattle.trips.specs.declared.End.{End}
-use Rattle.trips.specs.Trips.{Advanced, Ended, Followed}
+use Rattle.trips.specs.Trips.{Advanced, Ended, Reached, Followed}
 
 -- a rewrite at the first redex can only fail for the next term's length
 pub refused : {rules : List Rule} {t u : Term} {at n : ℕ} (e : RewriteFault) → First rules t at n → Rewrites rules t n at (Err e) u → Advanced rules t (Err e) u
@@ -34,6 +34,9 @@ pub record Following (s now : Subject) (steps : ℕ) : Type 0 where
   pub derivation : Derivation (rules_in s) (term_in s) numbers (term_in now)
   pub counted : length numbers ≡ steps
 
+pub reached : {s now : Subject} {steps : ℕ} → Following s now steps → Reached (rules_in s) (term_in s) (term_in now)
+reached f = record { numbers = f.numbers; derivation = f.derivation }
+
 pub starts : (s : Subject) → Following s s 0
 starts s = record { system = refl; numbers = []; derivation = done; counted = refl }
 
@@ -48,11 +51,11 @@ module _ {s now : Subject} {steps : ℕ} (f : Following s now steps) (after : Su
       let c = f.counted in
       record { system = same ∙ f.system; numbers = f.numbers ++ (n ∷ []); derivation = one_more f.derivation step; counted = omega arith }
 
-  pub ends : (e : End) → Ended (rules_in now) (term_in now) e → term_in after ≡ term_in now → Followed (rules_in s) (term_in s) (record { end = e; steps = steps }) (term_in after)
+  pub ends : (e : End) → Ended (rules_in now) (term_in now) steps e → term_in after ≡ term_in now → Followed (rules_in s) (term_in s) (record { end = e; steps = steps }) (term_in after)
   ends e x u =
       record {
         numbers = f.numbers;
         derivation = subst (λ y. Derivation (rules_in s) (term_in s) f.numbers y) (sym u) f.derivation;
         counted = f.counted;
-        ended = subst (λ y. Ended (rules_in s) y e) (sym u) (subst (λ rs. Ended rs (term_in now) e) same_rules x);
+        ended = subst (λ y. Ended (rules_in s) y steps e) (sym u) (subst (λ rs. Ended rs (term_in now) steps e) same_rules x);
       }

@@ -20,15 +20,24 @@ Advanced rules t (Ok (Some (at, n))) u = First rules t at n × Step rules n at t
 Advanced rules t (Ok None) u = (u ≡ t) × Normal rules t
 Advanced rules t (Err fault) u = (fault ≡ TooLong) × (u ≡ t) × Overlong rules t
 
--- what the end of a trip says of its last term
-abbrev pub Ended : List Rule → Term → End → Type 0
-Ended rules u end.Normal = Normal rules u
-Ended rules u end.More = Unit {0}
-Ended rules u end.TooLong = Overlong rules u
+-- how many steps a trip has at most
+abbrev pub most_steps : ℕ
+most_steps = 1000000
+
+-- what the end of a trip says of its last term, after so many steps
+abbrev pub Ended : List Rule → Term → ℕ → End → Type 0
+Ended rules u steps end.Normal = Normal rules u
+Ended rules u steps end.More = steps ≡ most_steps
+Ended rules u steps end.TooLong = Overlong rules u
+
+-- some derivation leads from a term to another
+pub record Reached (rules : List Rule) (t u : Term) : Type 0 where
+  pub numbers : List ℕ
+  pub derivation : Derivation rules t numbers u
 
 -- a derivation from the first term to the last, with as many steps as were counted
 pub record Followed (rules : List Rule) (t : Term) (trip : Trip) (u : Term) : Type 0 where
   pub numbers : List ℕ
   pub derivation : Derivation rules t numbers u
   pub counted : length numbers ≡ trip.steps
-  pub ended : Ended rules u trip.end
+  pub ended : Ended rules u trip.steps trip.end

@@ -1,9 +1,9 @@
 // Trips: a term is rewritten at its first redex, step by step, until there is none.
 #![tactic(auto)]
 
-ghost use Rattle.std.specs.Prelude.{◌≡◌, IfOk};
+ghost use Rattle.std.specs.Prelude.{◌≡◌, IfOk, IfErr};
 ghost use Rattle.rewriting.specs.Subjects.{rules_in, term_in};
-ghost use Rattle.trips.specs.Trips.{Advanced, Followed};
+ghost use Rattle.trips.specs.Trips.{Advanced, Reached, Followed};
 
 use rewriting::{RewriteFault, Subject};
 use std::convert::Infallible;
@@ -36,13 +36,16 @@ pub fn step_on(subject: &mut Subject) -> Result<Option<(usize, usize)>, RewriteF
     Ok(Some((place, rule)))
 }
 
-// Shows each step's place and rule to `visit`; what is left is the last term of a derivation from the first.
+// Shows each step's place and rule to `visit`; what is left is the last term of a derivation from the first, also where
+// `visit` stops it.
 pub fn follow_with<E, F: FnMut(usize, usize) -> Result<(), E>>(
     subject: &mut Subject,
     mut visit: F,
 ) -> Result<Trip, E>
     requires { F.IsAlwaysCallable visit }
-    ensures { IfOk result (λ trip. Followed (rules_in subject.old) (term_in subject.old) trip (term_in subject.new)) }
+    ensures same { subject.new.system ≡ subject.old.system }
+    ensures means { IfOk result (λ trip. Followed (rules_in subject.old) (term_in subject.old) trip (term_in subject.new)) }
+    ensures stopped { IfErr result (λ _. Reached (rules_in subject.old) (term_in subject.old) (term_in subject.new)) }
 {
     for steps in 0..MOST_STEPS {
         match step_on(subject) {
@@ -69,7 +72,8 @@ pub fn follow_with<E, F: FnMut(usize, usize) -> Result<(), E>>(
 
 // The same without a visitor: this can't fail.
 pub fn follow(subject: &mut Subject) -> Trip
-    ensures { Followed (rules_in subject.old) (term_in subject.old) result (term_in subject.new) }
+    ensures same { subject.new.system ≡ subject.old.system }
+    ensures means { Followed (rules_in subject.old) (term_in subject.old) result (term_in subject.new) }
 {
     let Ok(trip) = follow_with(subject, |_, _| Ok::<(), Infallible>(()));
     trip
