@@ -42,8 +42,7 @@ fn both<T: Copy>(
 {
     match (a, b) {
         (Ok(x), Ok(y)) => Ok((x, y)),
-        (Ok(_), Err(fault)) => Err(fault),
-        (Err(fault), Ok(_)) => Err(fault),
+        (Ok(_), Err(fault)) | (Err(fault), Ok(_)) => Err(fault),
         (Err(a), Err(b)) => Err(first_fault(a, b)),
     }
 }
@@ -86,11 +85,9 @@ fn add_ceilings(
     ensures { result ≡ added_ceilings a b }
 {
     match (a, b) {
-        (Ok(None), _) => Ok(None),
-        (_, Ok(None)) => Ok(None),
+        (Ok(None), _) | (_, Ok(None)) => Ok(None),
         (Ok(Some(c)), Ok(Some(d))) => { add(c, d).map(Some).ok_or(AlgebraFault::CeilingOutOfReach) }
-        (Err(fault), _) => Err(fault),
-        (_, Err(fault)) => Err(fault),
+        (Err(fault), _) | (_, Err(fault)) => Err(fault),
     }
 }
 

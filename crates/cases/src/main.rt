@@ -2,23 +2,12 @@
 #![tactic(auto)]
 
 use std::io;
-use worked::{Case, worked_cases, worked_cases_hold};
-
-fn print_case(rt: &HostRuntime, case: &Case) -> io::Result<()> {
-    let question = case.question;
-    let answer = question.answer();
-    let verdict = if answer == case.expected {
-        "as expected"
-    } else {
-        "WRONG"
-    };
-    println!(rt; "{question}: {answer}, {verdict}")
-}
+use worked::{worked_cases, worked_cases_hold};
 
 fn main(rt: HostRuntime) -> io::Result<()> {
     worked_cases_hold();
     for case in worked_cases() {
-        print_case(&rt, &case)?;
+        println!(rt; "{}", case.report(case.question.answer()))?;
     }
     Ok(())
 }

@@ -17,11 +17,11 @@ use Rattle.interpretations.proofs.Tests.{same_list_eq}
 use Rattle.forms.specs.Replies.{height_reply, compare_reply, rule_order}
 
 -- the equality of slices
-pub pointwise-same_list : (xs ys : List ℕ) → pointwise eqb xs ys ≡ same_list xs ys
-pointwise-same_list [] [] = refl
-pointwise-same_list [] (y ∷ ys) = refl
-pointwise-same_list (x ∷ xs) [] = refl
-pointwise-same_list (x ∷ xs) (y ∷ ys) = ap (λ b. eqb x y && b) (pointwise-same_list xs ys)
+pub pointwise_same_list : (xs ys : List ℕ) → pointwise eqb xs ys ≡ same_list xs ys
+pointwise_same_list [] [] = refl
+pointwise_same_list [] (y ∷ ys) = refl
+pointwise_same_list (x ∷ xs) [] = refl
+pointwise_same_list (x ∷ xs) (y ∷ ys) = ap (λ b. eqb x y && b) (pointwise_same_list xs ys)
 
 or_fault : {X E : Type 0} (b : Bool) (x : X) (e : E) → ok_or (cond b (Some x) None) e ≡ cond b (Ok x) (Err e)
 or_fault true x e = refl

@@ -12,10 +12,11 @@ use forms::{Form, Reckoning};
 use terms::Signature;
 
 // Whether it is the signature that the part interprets.
+#[tactic(auto, using(crate::proofs::Told::pointwise_same_list))]
 pub fn interprets<P: Reckoning>(part: &P, signature: &Signature) -> bool
     ensures { result ≡ same_list (arities_of signature.now) (P.meaning part.now).sig }
 {
-    signature.arities() == part.signature().arities()
+    signature == part.signature()
 }
 
 // The height of a term, in memory for any term.

@@ -74,15 +74,15 @@ total-dotted (suc n) (x ∷ es) [] = no_values (suc n) (x ∷ es)
 total-dotted (suc n) (x ∷ es) (v ∷ vs) = ap (λ t. x * v + t) (total-dotted n es vs) ∙ sym (dotted-cons x v es (take n vs))
 
 -- at most 255 × reach for each pair
-pub product-le : (e v : ℕ) → e ≤ 255 → v ≤ reach → e * v ≤ 255 * reach
-product-le e v h k = mul-le-mul h k
+pub product_small : (e v : ℕ) → e ≤ 255 → v ≤ reach → e * v ≤ 255 * reach
+product_small e v h k = mul-le-mul h k
 
 pub dotted-le : (es vs : List ℕ) → ((k : ℕ) → get_or es k 0 ≤ 255) → All (λ v. v ≤ reach) vs → dotted es vs ≤ length es * (255 * reach)
 dotted-le [] [] small near = omega arith
 dotted-le [] (v ∷ vs) small near = omega arith
 dotted-le (x ∷ es) [] small near = omega arith
 dotted-le (x ∷ es) (v ∷ vs) small near =
-    let first = product-le x v (small 0) (All-head (λ v. v ≤ reach) v vs near) in
+    let first = product_small x v (small 0) (All-head (λ v. v ≤ reach) v vs near) in
     let rest = dotted-le es vs (λ k. small (suc k)) (All-tail (λ v. v ≤ reach) v vs near) in
     omega (arith, dotted-cons x v es vs)
 

@@ -13,25 +13,28 @@ pub enum Part {
     Missing(Empty),
 }
 
+// The same call of whichever part it is.
+macro_rules! with_part {
+    ($value:expr, $part:ident => $call:expr) => {
+        match $value {
+            Part::Linear($part) => $call,
+            Part::Matrix($part) => $call,
+            Part::Missing($part) => $call,
+        }
+    };
+}
+
 impl Algebra for Part {
     ghost means = { part_algebra };
 
     ghost lawful = { λ q. Lawful.lawful q };
 
     fn fits(&self, signature: &Signature) -> bool {
-        match self {
-            Part::Linear(part) => part.fits(signature),
-            Part::Matrix(part) => part.fits(signature),
-            Part::Missing(part) => part.fits(signature),
-        }
+        with_part!(self, part => part.fits(signature))
     }
 
     fn measure(&self, signature: &Signature, codes: &[u16]) -> Result<u64, AlgebraFault> {
-        match self {
-            Part::Linear(part) => part.measure(signature, codes),
-            Part::Matrix(part) => part.measure(signature, codes),
-            Part::Missing(part) => part.measure(signature, codes),
-        }
+        with_part!(self, part => part.measure(signature, codes))
     }
 
     fn compare(
@@ -40,18 +43,10 @@ impl Algebra for Part {
         left: &[u16],
         right: &[u16],
     ) -> Result<Order, AlgebraFault> {
-        match self {
-            Part::Linear(part) => part.compare(signature, left, right),
-            Part::Matrix(part) => part.compare(signature, left, right),
-            Part::Missing(part) => part.compare(signature, left, right),
-        }
+        with_part!(self, part => part.compare(signature, left, right))
     }
 
     fn ceiling(&self, size: usize) -> Result<Option<u64>, AlgebraFault> {
-        match self {
-            Part::Linear(part) => part.ceiling(size),
-            Part::Matrix(part) => part.ceiling(size),
-            Part::Missing(part) => part.ceiling(size),
-        }
+        with_part!(self, part => part.ceiling(size))
     }
 }

@@ -5,15 +5,8 @@ mod uncapped;
 
 use algebras::{Algebra, Empty, Sum, review};
 use std::io;
-use terms::{Malformed, Rule, Signature, System};
 use uncapped::Uncapped;
-
-// add(z, b) -> b, with add, z and s numbered 0, 1 and 2.
-fn addition() -> Result<System, Malformed> {
-    let signature = Signature::new(&[2, 0, 1])?;
-    let base = Rule::new(&[0, 1, 32769], &[32769])?;
-    System::new(signature, &[base])
-}
+use worked::addition;
 
 fn print_ceiling<A: Algebra>(rt: &HostRuntime, name: &str, algebra: &A) -> io::Result<()> {
     match algebra.ceiling(6) {
@@ -24,10 +17,7 @@ fn print_ceiling<A: Algebra>(rt: &HostRuntime, name: &str, algebra: &A) -> io::R
 }
 
 fn print_review<A: Algebra>(rt: &HostRuntime, name: &str, algebra: &A) -> io::Result<()> {
-    let Ok(system) = addition() else {
-        return println!(rt; "no system");
-    };
-    match review(algebra, &system) {
+    match review(algebra, &addition()) {
         Ok(()) => println!(rt; "{name}: every rule is strict"),
         Err(fault) => println!(rt; "{name}: {fault}"),
     }

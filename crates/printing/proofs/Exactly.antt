@@ -1,7 +1,8 @@
 -- The law of printing: what is answered and written is what the trees say.
-use Rattle.std.proofs.Common.{◌≡◌, ℕ, ◌<◌, ◌≤◌, true, false, leb, T, List, [], ◌++◌, length, drop, sym, refl, ap, ◌∙◌, subst, subst₂, arith}
+use Rattle.std.proofs.Common.{◌≡◌, ℕ, ◌<◌, ◌≤◌, Bool, true, false, cond, leb, T, Some, None, List, [], ◌++◌, length, drop, sym, refl, ap, ◌∙◌, subst, subst₂, arith}
 use Rattle.std.proofs.lemmas.List.{take_at, drop_at}
 use Rattle.std.proofs.lemmas.Bool.{leb-false}
+use Rattle.tokens.specs.Tokens.{Word}
 use Rattle.terms.specs.Terms.{Term, codes}
 use Rattle.terms.specs.Codes.{is_term, term_of}
 use Rattle.terms.proofs.Booleans.{both, fst_of, snd_of, held, never}
@@ -18,12 +19,13 @@ use Rattle.reading.specs.Outcomes.{Outcome.accepted, outcome}
 use Rattle.reading.proofs.Texts.{term_text_exactly}
 use Rattle.printing.specs.Texts.{text, spelled}
 use Rattle.printing.specs.Showing.{all_named}
-use Rattle.printing.specs.Replies.{is_printable, text_of}
+use Rattle.printing.specs.Replies.{is_printable, words_reply, text_of}
 use Rattle.printing.specs.Laws.{Coded, Printed, Termless, Cramped}
 use Rattle.reading.proofs.Complete.{as_many, settled, over_signature}
 use Rattle.printing.proofs.Sound.{Sound, sound, over_names, codes_named}
 use Rattle.printing.proofs.Shows.{shows_term}
 use Rattle.printing.proofs.Neat.{words_back}
+use Rattle.printing.proofs.Longest.{few}
 
 module _ (n : Naming) (s : Sound n) where
   abbrev v : Vocabulary
@@ -76,8 +78,12 @@ module _ (x : Names) (cs out : List ℕ) where
   abbrev names : Vocabulary
   names = (naming_of x).vocabulary
 
-  pub no_term : false ≡ is_printable (naming_of x) cs → Termless names cs out out
-  no_term e = record { none = λ t g h c. never _ (printable_of (naming_of x) (sound x) t cs g h c) (sym e); same = refl }
+  unworded : (b : Bool) (ws : List Word) → None ≡ cond b (Some ws) None → b ≡ false
+  unworded false ws e = refl
+  unworded true ws e = cc
+
+  pub no_term : None ≡ words_reply (naming_of x) cs → Termless names cs out out
+  no_term e = record { none = λ t g h c. never _ (printable_of (naming_of x) (sound x) t cs g h c) (unworded _ _ e); same = refl }
 
   coded : true ≡ is_printable (naming_of x) cs → Coded names cs
   coded e = coded_of (naming_of x) (sound x) cs (held _ (sym e))
@@ -85,6 +91,16 @@ module _ (x : Names) (cs out : List ℕ) where
   pub too_short : true ≡ is_printable (naming_of x) cs → false ≡ leb (length (text_of (naming_of x) cs)) (length out) → Cramped names cs out out
   too_short e f =
       record { of = coded e; long = subst (λ (l : List ℕ). length out < length l) (text-spelled (naming_of x) (sound x) cs (coded e)) (leb-false _ _ (sym f)); same = refl }
+
+  pub scarce : true ≡ is_printable (naming_of x) cs → false ≡ leb (length (text_of (naming_of x) cs)) (length out) → length out < 18432
+  scarce e f =
+      let c = coded e in
+      let short = leb-false _ _ (sym f) in
+      let same = ap length (text-spelled (naming_of x) (sound x) cs c) in
+      let most = few (naming_of x) (sound x) c.term c.named in
+      let counted = ap length c.coded in
+      let limit = c.short in
+      omega arith
 
   pub written : true ≡ is_printable (naming_of x) cs → (k : ℕ) (after : List ℕ) → k ≡ length (text_of (naming_of x) cs) → after ≡ text_of (naming_of x) cs ++ drop k out → Printed names cs out k after
   written e k after len is =

@@ -43,3 +43,9 @@ abbrev pub PrintedExactly : Vocabulary → List ℕ → List ℕ → Result ℕ 
 PrintedExactly v cs before (Ok n) after = Printed v cs before n after
 PrintedExactly v cs before (Err NoTerm) after = Termless v cs before after
 PrintedExactly v cs before (Err TooShort) after = Cramped v cs before after
+
+-- memory of so many bytes is never too short
+abbrev pub Suffices : ℕ → List ℕ → Result ℕ PrintFault → Type 0
+Suffices most before (Ok n) = Unit {0}
+Suffices most before (Err NoTerm) = Unit {0}
+Suffices most before (Err TooShort) = length before < most

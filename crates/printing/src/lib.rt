@@ -2,12 +2,18 @@
 #![tactic(auto)]
 
 pub mod fault;
+pub mod named_term;
 mod piece;
 pub mod print;
 mod speller;
 
 pub use fault::PrintFault;
+pub use named_term::NamedTerm;
 pub use print::print_term;
+
+// No text of a term is longer: each of at most 1,024 codes has a name of at most 16 bytes, and fewer than two brackets
+// or commas. In memory of this many bytes every term is printed.
+pub const MOST_TEXT: usize = 18_432;
 
 #[cfg(test)]
 mod tests {
@@ -16,12 +22,8 @@ mod tests {
     use tokens::Name;
     use vocabulary::{Names, Vocabulary};
 
-    fn name(bytes: &[u8]) -> Result<Name, Fail> {
-        Name::new(bytes).ok_or_else(|| Fail::new("no name"))
-    }
-
-    fn number(vocabulary: &mut Vocabulary, bytes: &[u8], arity: u8) -> Result<(), Fail> {
-        let symbol = vocabulary.number(&name(bytes)?)?;
+    fn number(vocabulary: &mut Vocabulary, name: Name, arity: u8) -> Result<(), Fail> {
+        let symbol = vocabulary.number(&name)?;
         vocabulary.settle(symbol, arity)?;
         Ok(())
     }
@@ -29,10 +31,10 @@ mod tests {
     // The symbols add, s and z, and a variable b.
     fn names() -> Result<Names, Fail> {
         let mut vocabulary = Vocabulary::new();
-        vocabulary.declare(&name(b"b")?)?;
-        number(&mut vocabulary, b"add", 2)?;
-        number(&mut vocabulary, b"s", 1)?;
-        number(&mut vocabulary, b"z", 0)?;
+        vocabulary.declare(&Name::new(b"b").unwrap())?;
+        number(&mut vocabulary, Name::new(b"add").unwrap(), 2)?;
+        number(&mut vocabulary, Name::new(b"s").unwrap(), 1)?;
+        number(&mut vocabulary, Name::new(b"z").unwrap(), 0)?;
         Names::new(vocabulary).ok_or_else(|| Fail::new("no names"))
     }
 

@@ -15,7 +15,7 @@ pub(crate) enum Wants {
     Settle,
 }
 
-#[derive(Drop)]
+#[derive(Clone, Copy)]
 pub(crate) struct Speller<'a> {
     names: &'a Names,
     codes: &'a [u16],

@@ -4,6 +4,7 @@ pub mod Sounds
 pub mod Completes
 pub mod Whole
 pub mod Starting
+pub mod Closing
 pub mod Standing
 pub mod Accepting
 pub mod Settling

@@ -107,22 +107,26 @@ at_close v cs [] = stop Misplaced
 at_close v cs (u ∷ us) = settled v u.symbol u.begun (arity_of v u.symbol) (λ w. go w (record { codes = cs; uses = us; awaits = After }))
 
 -- behind a whole term, where `close` is what a closing bracket comes to
-abbrev pub at_after : Reply → Vocabulary → List ℕ → List Use → Word → Reply
-at_after close v cs us lpar = stop Misplaced
-at_after close v cs us rpar = close
-at_after close v cs us comma = at_comma v cs us
-at_after close v cs us arrow = stop Misplaced
-at_after close v cs us (named n) = stop Misplaced
-at_after close v cs us long = stop Misplaced
-at_after close v cs us illegal = stop Misplaced
+abbrev pub at_after_with : Reply → Vocabulary → List ℕ → List Use → Word → Reply
+at_after_with close v cs us lpar = stop Misplaced
+at_after_with close v cs us rpar = close
+at_after_with close v cs us comma = at_comma v cs us
+at_after_with close v cs us arrow = stop Misplaced
+at_after_with close v cs us (named n) = stop Misplaced
+at_after_with close v cs us long = stop Misplaced
+at_after_with close v cs us illegal = stop Misplaced
+
+-- where a use closes as it says
+abbrev pub at_after : Vocabulary → List ℕ → List Use → Word → Reply
+at_after v cs us w = at_after_with (at_close v cs us) v cs us w
 
 abbrev pub step_with : Reply → Role → Vocabulary → State → Bool → Word → Await → Reply
 step_with close p v s bare w Term = at_term p v s bare w
 step_with close p v s bare w Bracket = cond (is_open w) (at_open v s.codes s.uses) (stop Misplaced)
 step_with close p v s bare w NoBracket = stop Arguments
-step_with close p v s bare w After = at_after close v s.codes s.uses w
+step_with close p v s bare w After = at_after_with close v s.codes s.uses w
 
--- a use closes as it says
+-- whatever is awaited, where a use closes as it says
 abbrev pub step_by : Role → Vocabulary → State → Bool → Word → Await → Reply
 step_by p v s bare w a = step_with (at_close v s.codes s.uses) p v s bare w a
 

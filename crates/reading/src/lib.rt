@@ -7,10 +7,12 @@ ghost use Rattle.std.specs.Prelude.{◌≡◌};
 ghost use Rattle.reading.specs.Laws.{StartExactly};
 ghost use Rattle.reading.specs.Exactly.{TextsRead};
 
+pub mod lookahead;
 pub mod role;
 pub mod side;
 pub mod state;
 
+pub use lookahead::Lookahead;
 pub use role::Role;
 pub use side::Side;
 pub use state::{Await, Block, Use};

@@ -6,7 +6,7 @@ ghost use Rattle.reading.specs.Models.{role_of};
 use bounded::ArrayVec;
 use terms::has_code;
 
-#[derive(Clone, Copy, PartialEq, Eq)]
+#[derive(Clone, Copy, PartialEq, Eq, Debug)]
 pub enum Role {
     Left,
     // With the codes of the left side.

@@ -1,5 +1,5 @@
 // The one shape of every refusal: a number, the layer that refused, and a place.
-// Each layer's own fault enum says by a call `refusal` which of these it stands for.
+// Each layer's own fault enum says by `From` which of these it stands for.
 #![tactic(auto)]
 
 ghost use Rattle.std.specs.Prelude.{◌≡◌, Some};

@@ -14,6 +14,8 @@ use Rattle.terms.specs.Codes.{is_term, term_of}
 use Rattle.terms.specs.Shapes.{is_rule, rule_of}
 use Rattle.terms.specs.Models.{sides_of, all_sides, all_rules}
 use Rattle.terms.specs.Systems.{listed_rules, rules_from}
+use Rattle.rewriting.specs.declared.place.Place.{Place}
+use Rattle.rewriting.specs.Places.{Placed}
 use Rattle.rewriting.specs.Replies.{rule_at, stepped, rewritten, answer, codes_after}
 use Rattle.rewriting.specs.Subjects.{arities_in, rules_in, codes_in, term_in}
 use Rattle.rewriting.specs.Laws.{Rewrites}
@@ -24,6 +26,11 @@ use Rattle.rewriting.proofs.Telling.{rewrite_law, rewrite_term}
 pub none_fault : {X : Type 0} (o : Option X) (e f : RewriteFault) → Err e ≡ ok_or o f → false ≡ is_some o → e ≡ f
 none_fault None e f h k = cc
 none_fault (Some x) e f h k = cc
+
+-- codes without a place of that number
+pub none_placed : (sig cs : List ℕ) (at : ℕ) (o : Option Place) → Placed sig cs at o → false ≡ is_some o → length cs ≤ at
+none_placed sig cs at None h k = h
+none_placed sig cs at (Some p) h k = cc
 
 module _ (s : Subject) (n at : ℕ) where
   abbrev Reply : Result (List ℕ) RewriteFault

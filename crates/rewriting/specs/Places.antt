@@ -1,5 +1,5 @@
 -- A place of a term, and the subterm there.
-use Rattle.std.specs.Prelude.{ℕ, cond, List, length, Ok, Err, Result, nat_lt}
+use Rattle.std.specs.Prelude.{◌≡◌, ℕ, ◌<◌, ◌≤◌, cond, List, length, Some, None, Ok, Err, Option, Result, nat_lt}
 use Rattle.rewriting.specs.declared.fault.RewriteFault.{RewriteFault}
 use Rattle.rewriting.specs.declared.fault.RewriteFault.TheVariants as fault
 use Rattle.rewriting.specs.declared.place.Place.{Place}
@@ -21,6 +21,11 @@ pub record Spot : Type 0 where
 
 abbrev pub spot_of : Place → Spot
 spot_of p = record { arities = arities_at p; codes = p.codes.now; at = p.at }
+
+-- the place of a number, where codes have it
+abbrev pub Placed : List ℕ → List ℕ → ℕ → Option Place → Type 0
+Placed sig cs at None = length cs ≤ at
+Placed sig cs at (Some p) = (at < length cs) × (spot_of p ≡ record { arities = sig; codes = cs; at = at })
 
 abbrev pub place_reply : List ℕ → List ℕ → ℕ → Result Spot RewriteFault
 place_reply sig cs at =

@@ -7,10 +7,11 @@ ghost use Rattle.rewriting.specs.Replies.{fault_refusal};
 use bounded::Full;
 use refusals::{Layer, Refusal};
 use std::fmt;
+use terms::Malformed;
 
 #[derive(Clone, Copy, PartialEq, Eq, Debug)]
 pub enum RewriteFault {
-    // The codes are no term under the signature.
+    // The codes are no term under the signature, or what is rewritten is no system or term.
     Malformed,
     NoRule,
     NoPlace,
@@ -24,6 +25,14 @@ impl From<Full> for RewriteFault {
 
     fn from(_full: Full) -> Self {
         Self::TooLong
+    }
+}
+
+impl From<Malformed> for RewriteFault {
+    ghost from_gives = { λ _ r. r ≡ fault.Malformed };
+
+    fn from(_malformed: Malformed) -> Self {
+        Self::Malformed
     }
 }
 

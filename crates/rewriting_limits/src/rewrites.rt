@@ -4,8 +4,13 @@ use rewriting::{RewriteFault, Subject, matches};
 use std::io;
 use terms::{Malformed, Rule, Signature, System};
 
+// add, z and s.
+fn signature() -> Result<Signature, Malformed> {
+    Signature::new(&[2, 0, 1])
+}
+
 fn end_at(codes: &[u16], at: usize) -> Option<usize> {
-    Signature::new(&[2, 0, 1]).ok()?.subterm_end(codes, at)
+    signature().ok()?.subterm_end(codes, at)
 }
 
 pub fn try_places(rt: &HostRuntime) -> io::Result<()> {
@@ -17,8 +22,7 @@ pub fn try_places(rt: &HostRuntime) -> io::Result<()> {
 }
 
 fn match_at(pattern: &[u16], codes: &[u16], at: usize) -> Result<bool, RewriteFault> {
-    let signature = Signature::new(&[2, 0, 1]).map_err(|_| RewriteFault::Malformed)?;
-    matches(&signature, pattern, codes, at)
+    matches(&signature()?, pattern, codes, at)
 }
 
 pub fn try_matches(rt: &HostRuntime) -> io::Result<()> {
@@ -50,10 +54,9 @@ pub fn try_matches(rt: &HostRuntime) -> io::Result<()> {
 
 // The system s(a) -> add(a, a), add(z, b) -> b.
 fn doubling() -> Result<System, Malformed> {
-    let signature = Signature::new(&[2, 0, 1])?;
     let double = Rule::new(&[2, 32768], &[0, 32768, 32768])?;
     let base = Rule::new(&[0, 1, 32769], &[32769])?;
-    System::new(signature, &[double, base])
+    System::new(signature()?, &[double, base])
 }
 
 fn doubled(codes: &[u16]) -> Result<Subject, Malformed> {
@@ -61,7 +64,7 @@ fn doubled(codes: &[u16]) -> Result<Subject, Malformed> {
 }
 
 fn rewrite(codes: &[u16], rule: usize, place: usize) -> Result<&'static str, RewriteFault> {
-    let mut subject = doubled(codes).map_err(|_| RewriteFault::Malformed)?;
+    let mut subject = doubled(codes)?;
     subject.rewrite(rule, place)?;
     Ok("rewritten")
 }

@@ -3,14 +3,10 @@ use rewriting::RewriteFault;
 use std::fmt::Display;
 use std::io;
 
-fn say<T: Display + Drop>(rt: &HostRuntime, what: &str, answer: T) -> io::Result<()> {
-    println!(rt; "{what}: {answer}")
-}
-
 pub fn say_end(rt: &HostRuntime, what: &str, end: Option<usize>) -> io::Result<()> {
     match end {
-        None => say(rt, what, "none"),
-        Some(end) => say(rt, what, end),
+        None => println!(rt; "{what}: none"),
+        Some(end) => println!(rt; "{what}: {end}"),
     }
 }
 
@@ -21,7 +17,7 @@ pub fn say_answer<T: Display + Drop>(
     answer: Result<T, RewriteFault>,
 ) -> io::Result<()> {
     match answer {
-        Ok(answer) => say(rt, what, answer),
-        Err(fault) => say(rt, what, fault),
+        Ok(answer) => println!(rt; "{what}: {answer}"),
+        Err(fault) => println!(rt; "{what}: {fault}"),
     }
 }

@@ -1,5 +1,6 @@
 pub mod Booleans
 pub mod Counting
+pub mod Firsts
 pub mod Overs
 pub mod Readings
 pub mod Places
@@ -13,4 +14,3 @@ pub mod RuleCodes
 pub mod Splices
 pub mod Exactly
 pub mod Made
-pub mod Derivations

@@ -1,5 +1,6 @@
 -- Codes read as terms. A code is a symbol number, or 32,768 plus a variable number.
-use Rattle.std.specs.Prelude.{ℕ, zero, suc, ◌+◌, ◌-◌, Bool, true, false, cond, ◌&&◌, List, [], ◌∷◌, length, drop, nat_le, nat_lt, slice_index}
+use Rattle.std.specs.Prelude.{ℕ, zero, suc, ◌+◌, ◌-◌, Bool, true, false, cond, ◌&&◌, List, [], ◌∷◌, length, drop, Some, None, Option, nat_le, nat_lt, slice_index}
+use Rattle.std.specs.Option.{option_map}
 use Rattle.terms.specs.Limits.{variables, most_term}
 use Rattle.terms.specs.Terms.{Term, Terms, Term.var, Term.app, Terms.none, Terms.more}
 
@@ -27,6 +28,12 @@ abbrev pub span : List ℕ → ℕ → List ℕ → ℕ
 span sig zero cs = 0
 span sig (suc k) [] = 0
 span sig (suc k) (c ∷ cs) = 1 + span sig (k + arity sig c) cs
+
+-- the same, if they are complete: none where the codes end before
+abbrev pub first_terms : List ℕ → ℕ → List ℕ → Option ℕ
+first_terms sig zero cs = Some 0
+first_terms sig (suc k) [] = None
+first_terms sig (suc k) (c ∷ cs) = option_map (λ n. 1 + n) (first_terms sig (k + arity sig c) cs)
 
 -- the first n terms of a row, and the others
 abbrev pub front : ℕ → Terms → Terms

@@ -11,3 +11,4 @@ pub mod Systems
 pub mod Replies
 pub mod Laws
 pub mod Kinds
+pub mod Lines

@@ -3,14 +3,16 @@
 #![tactic(auto)]
 
 pub mod code;
+pub mod codes;
 pub mod malformed;
 pub mod rule;
 pub mod signature;
 pub mod system;
 
 pub use code::Code;
+pub use codes::Codes;
 pub use malformed::Malformed;
-pub use rule::{Rule, has_code};
+pub use rule::{Rule, has_code, starts_with_symbol};
 pub use signature::Signature;
 pub use system::System;
 
@@ -28,3 +30,16 @@ pub const MOST_RULES: usize = 32;
 pub const MOST_SIDE: usize = 32;
 
 pub const MOST_TERM: usize = 1024;
+
+#[cfg(test)]
+mod tests {
+    use super::*;
+    use std::test::Fail;
+
+    #[test]
+    fn codes_print_behind_blanks(rt: HostRuntime) -> Result<(), Fail> {
+        let codes = Codes(&[0, 32768]).to_string(rt.alloc())?;
+        assert!(rt; codes.as_str() == " 0 32768");
+        Ok(())
+    }
+}

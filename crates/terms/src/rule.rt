@@ -7,8 +7,8 @@ use bounded::ArrayVec;
 
 mod calls;
 
-pub use calls::has_code;
 pub(crate) use calls::is_proper;
+pub use calls::{has_code, starts_with_symbol};
 
 #[derive(Clone, Copy)]
 pub struct Rule {

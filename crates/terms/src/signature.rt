@@ -7,7 +7,7 @@ use bounded::ArrayVec;
 
 mod calls;
 
-#[derive(Clone, Copy)]
+#[derive(Clone, Copy, PartialEq, Eq)]
 pub struct Signature {
     arities: ArrayVec<u8, 32>,
     ghost limited: { T (is_signature (items arities)) },

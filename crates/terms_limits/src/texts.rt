@@ -1,15 +1,18 @@
 // How a try is printed.
-use std::fmt::Display;
 use std::io;
 use terms::Malformed;
 
-pub fn say<T: Display + Drop>(rt: &HostRuntime, what: &str, answer: T) -> io::Result<()> {
-    println!(rt; "{what}: {answer}")
+pub fn say_term(rt: &HostRuntime, what: &str, is_term: bool) -> io::Result<()> {
+    println!(rt; "{what}: {is_term}")
 }
 
-pub fn say_made(rt: &HostRuntime, what: &str, fault: Option<Malformed>) -> io::Result<()> {
-    match fault {
-        None => say(rt, what, "accepted"),
-        Some(fault) => say(rt, what, fault),
+pub fn say_made<T: Drop>(
+    rt: &HostRuntime,
+    what: &str,
+    made: Result<T, Malformed>,
+) -> io::Result<()> {
+    match made {
+        Ok(_) => println!(rt; "{what}: accepted"),
+        Err(fault) => println!(rt; "{what}: {fault}"),
     }
 }

@@ -1,12 +1,13 @@
 -- The worked cases on codes and one on a text, as one list, and what the definitions say of each.
-use Rattle.std.specs.Prelude.{◌≡◌, ℕ, Bool, true, false, List, [], ◌∷◌, ◌++◌, map, Ok, Err, codes as bytes, Result}
+use Rattle.std.specs.Prelude.{◌≡◌, ℕ, List, [], ◌∷◌, ◌++◌, map, Ok, Err, codes as bytes, Result}
+use Rattle.refusals.specs.declared.Refusal.{Refusal}
 use Rattle.refusals.specs.declared.Layer.TheVariants.{Rules}
 use Rattle.worked.specs.Cases as on_codes
 use Rattle.texts.specs.declared.fault.TextFault.{TextFault}
 use Rattle.texts.specs.Faults.{text_refusal}
 use Rattle.texts.specs.Systems.{Said, rules_reply}
 use Rattle.text_cases.specs.declared.question.Answer.{Answer}
-use Rattle.text_cases.specs.declared.question.Answer.TheVariants.{Yes, No, Accepted, Refused}
+use Rattle.text_cases.specs.declared.question.Answer.TheVariants.{OnCodes, RuleText}
 
 -- a question on codes, or what a rule text comes to
 pub data Question : Type 0 where
@@ -17,17 +18,14 @@ pub record Case : Type 0 where
   pub question : Question
   pub expected : Answer
 
-abbrev pub truth : Bool → Answer
-truth true = Yes
-truth false = No
-
-abbrev pub read_so : Result Said TextFault → Answer
-read_so (Ok s) = Accepted
-read_so (Err e) = Refused (text_refusal e)
+-- whether a text is accepted, or its refusal
+abbrev pub read_so : Result Said TextFault → Result (Unit {0}) Refusal
+read_so (Ok s) = Ok tt
+read_so (Err e) = Err (text_refusal e)
 
 abbrev pub answered : Question → Answer
-answered (asked q) = truth (on_codes.answered q)
-answered (rule_text bytes) = read_so (rules_reply bytes)
+answered (asked q) = OnCodes (on_codes.answered q)
+answered (rule_text bytes) = RuleText (read_so (rules_reply bytes))
 
 -- what the definitions answer
 abbrev pub said : Case → Answer
@@ -39,10 +37,10 @@ AllHold (c ∷ cs) = (said c ≡ c.expected) × AllHold cs
 
 -- a case on codes among these
 abbrev pub taken_in : on_codes.Case → Case
-taken_in c = record { question = asked c.question; expected = truth c.expected }
+taken_in c = record { question = asked c.question; expected = OnCodes c.expected }
 
 -- the six cases on codes; and a rule whose left side is a variable is refused at its arrow
 abbrev pub worked : List Case
 worked =
     map taken_in on_codes.worked
-    ++ (record { question = rule_text (bytes "(VAR a)(RULES a -> a)"); expected = Refused (record { number = 5; layer = Rules; place = 16 }) } ∷ [])
+    ++ (record { question = rule_text (bytes "(VAR a)(RULES a -> a)"); expected = RuleText (Err record { number = 5; layer = Rules; place = 16 }) } ∷ [])

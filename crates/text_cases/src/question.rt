@@ -1,6 +1,7 @@
 // Questions on codes, or on a rule text.
-ghost use Rattle.std.specs.Prelude.{◌≡◌};
-ghost use Rattle.text_cases.specs.Cases.{truth, answered};
+ghost use Rattle.std.specs.Prelude.{◌≡◌, Some};
+ghost use Rattle.text_cases.specs.Cases.{answered};
+ghost use Rattle.text_cases.specs.Lines.{answer_text, question_text};
 ghost use Rattle.text_cases.specs.Views.{question_of};
 
 use refusals::Refusal;
@@ -11,34 +12,13 @@ use texts::read_rules;
 pub enum Question {
     OnCodes(worked::Question),
     // What does a rule text come to?
-    RuleText(&'static [u8]),
+    RuleText(&'static str),
 }
 
 #[derive(Clone, Copy, PartialEq, Eq, Debug)]
 pub enum Answer {
-    Yes,
-    No,
-    Accepted,
-    Refused(Refusal),
-}
-
-impl From<bool> for Answer {
-    ghost from_gives = { λ b answer. answer ≡ truth b };
-
-    fn from(b: bool) -> Answer {
-        if b { Answer::Yes } else { Answer::No }
-    }
-}
-
-impl fmt::Display for Answer {
-    fn fmt<W: fmt::Write>(&self, f: &mut fmt::Formatter<W>) -> fmt::Result {
-        match self {
-            Answer::Yes => write!(f, "true"),
-            Answer::No => write!(f, "false"),
-            Answer::Accepted => write!(f, "accepted"),
-            Answer::Refused(refusal) => write!(f, "{refusal}"),
-        }
-    }
+    OnCodes(bool),
+    RuleText(Result<(), Refusal>),
 }
 
 impl Question {
@@ -46,11 +26,34 @@ impl Question {
         ensures { result ≡ answered (question_of self.now) }
     {
         match *self {
-            Question::OnCodes(question) => Answer::from(question.answer()),
-            Question::RuleText(text) => match read_rules(text) {
-                Ok(_) => Answer::Accepted,
-                Err(fault) => Answer::Refused(Refusal::from(fault)),
-            },
+            Question::OnCodes(question) => Answer::OnCodes(question.answer()),
+            Question::RuleText(text) => {
+                let read = read_rules(text.as_bytes());
+                Answer::RuleText(read.map(|_| ()).map_err(Refusal::from))
+            }
+        }
+    }
+}
+
+impl fmt::Display for Question {
+    ghost output = { λ q. Some (question_text (question_of q)) };
+
+    fn fmt<W: fmt::Write>(&self, f: &mut fmt::Formatter<W>) -> fmt::Result {
+        match self {
+            Question::OnCodes(question) => question.fmt(f),
+            Question::RuleText(text) => write!(f, "rules {text}"),
+        }
+    }
+}
+
+impl fmt::Display for Answer {
+    ghost output = { λ a. Some (answer_text a) };
+
+    fn fmt<W: fmt::Write>(&self, f: &mut fmt::Formatter<W>) -> fmt::Result {
+        match self {
+            Answer::OnCodes(answer) => answer.fmt(f),
+            Answer::RuleText(Ok(())) => f.write_str("accepted"),
+            Answer::RuleText(Err(refusal)) => refusal.fmt(f),
         }
     }
 }

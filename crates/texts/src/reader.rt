@@ -2,13 +2,22 @@
 ghost use Rattle.std.specs.Prelude.{◌≡◌};
 ghost use Rattle.reading.specs.Outcomes.{outcome};
 ghost use Rattle.texts.specs.Documents.{document_of};
-ghost use Rattle.texts.specs.Readings.{outcome_of};
+ghost use Rattle.texts.specs.Readings.{Places, outcome_of};
 ghost use Rattle.texts.specs.Faults.{FaultsIn};
 
 use crate::document::Document;
 use crate::fault::{Source, TextFault};
+use reading::Lookahead;
 use tokens::{Lexer, Token};
 use vocabulary::Flaw;
+
+// A flaw, at its place in a text.
+fn placed(answer: Result<(), Flaw>, source: Source, at: usize) -> Result<(), TextFault>
+    ensures value { Places answer at result }
+    ensures source { FaultsIn source result }
+{
+    answer.map_err(|flaw| TextFault { source, flaw, at })
+}
 
 // One token of lookahead tells whether a name has arguments.
 pub(crate) fn read(document: &mut Document, source: Source, text: &[u8]) -> Result<(), TextFault>
@@ -19,22 +28,12 @@ pub(crate) fn read(document: &mut Document, source: Source, text: &[u8]) -> Resu
     let mut current = lexer.next();
     while !matches!(current.token, Token::End) {
         let following = lexer.next();
-        let bare = !matches!(following.token, Token::Open);
-        document
-            .step(&current.token, bare)
-            .map_err(|flaw| TextFault {
-                source,
-                flaw,
-                at: current.at,
-            })?;
+        let ahead = Lookahead {
+            token: current.token,
+            bare: !matches!(following.token, Token::Open),
+        };
+        placed(document.step(&ahead), source, current.at)?;
         current = following;
     }
-    if document.may_end() {
-        return Ok(());
-    }
-    Err(TextFault {
-        source,
-        flaw: Flaw::Misplaced,
-        at: current.at,
-    })
+    placed(document.end(), source, current.at)
 }

@@ -5,11 +5,10 @@
 mod escapes;
 
 use escapes::unescaped;
-use printing::print_term;
+use printing::NamedTerm;
 use std::io;
-use std::io::Write;
+use terms::Codes;
 use texts::{NamedSystem, read_rules, read_term};
-use vocabulary::Names;
 
 fn print_system(rt: &HostRuntime, text: &NamedSystem) -> io::Result<()> {
     let rules = text.system.rules().len();
@@ -21,34 +20,12 @@ fn print_system(rt: &HostRuntime, text: &NamedSystem) -> io::Result<()> {
     println!(rt; "")
 }
 
-fn print_codes(rt: &HostRuntime, codes: &[u16]) -> io::Result<()> {
-    for code in codes {
-        print!(rt; " {code}")?;
-    }
-    Ok(())
-}
-
 // The codes of each rule, to show how names were numbered.
 fn print_rules(rt: &HostRuntime, text: &NamedSystem) -> io::Result<()> {
     for rule in text.system.rules() {
-        print!(rt; " ")?;
-        print_codes(rt, rule.left())?;
-        print!(rt; " ->")?;
-        print_codes(rt, rule.right())?;
-        println!(rt; "")?;
+        println!(rt; " {} ->{}", Codes(rule.left()), Codes(rule.right()))?;
     }
     Ok(())
-}
-
-fn print_named(rt: &HostRuntime, names: &Names, codes: &[u16]) -> io::Result<()> {
-    let mut text = vec![in rt.alloc(); 0u8; 18_432]?;
-    match print_term(names, codes, &mut text) {
-        Ok(len) => {
-            rt.stdout().write_all(&text[0..len])?;
-            println!(rt; "")
-        }
-        Err(fault) => println!(rt; "{fault}"),
-    }
 }
 
 fn answer_rules(rt: &HostRuntime, text: &[u8], last: &mut Option<NamedSystem>) -> io::Result<()> {
@@ -68,7 +45,13 @@ fn answer_term(rt: &HostRuntime, text: &[u8], last: &Option<NamedSystem>) -> io:
         return println!(rt; "no rules");
     };
     match read_term(&named.names, text) {
-        Ok(codes) => print_named(rt, &named.names, codes.as_slice()),
+        Ok(codes) => {
+            let term = NamedTerm {
+                names: &named.names,
+                codes: codes.as_slice(),
+            };
+            println!(rt; "{term}")
+        }
         Err(fault) => println!(rt; "{fault}"),
     }
 }

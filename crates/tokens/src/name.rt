@@ -9,7 +9,7 @@ mod calls;
 
 pub(crate) use calls::is_letter;
 
-#[derive(Clone, Copy, PartialEq, Eq)]
+#[derive(Clone, Copy, PartialEq, Eq, Debug)]
 pub struct Name {
     bytes: ArrayVec<u8, 16>,
     ghost spelled: { T (is_name (items bytes)) },

@@ -1,7 +1,7 @@
 // Tokens.
 use crate::name::Name;
 
-#[derive(Clone, Copy, PartialEq, Eq)]
+#[derive(Clone, Copy, PartialEq, Eq, Debug)]
 pub enum Token {
     Open,
     Close,
@@ -16,7 +16,7 @@ pub enum Token {
 }
 
 // A token and the offset of its first byte; the end's is the text's length.
-#[derive(Clone, Copy, PartialEq, Eq)]
+#[derive(Clone, Copy, PartialEq, Eq, Debug)]
 pub struct Lexeme {
     pub at: usize,
     pub token: Token,

@@ -5,17 +5,13 @@
 mod opening;
 
 use opening::{Opened, open};
-use printing::print_term;
-use std::io::{ErrorKind, Read, Write};
+use printing::NamedTerm;
+use std::io::{ErrorKind, Read};
 use std::{fs, io};
 use trips::{End, Trip, follow};
-use vocabulary::Names;
 
 // Only this many bytes of a file count.
 const MOST_BYTES: u64 = 65_536;
-// The longest text of a term: 1,024 names of 16 bytes, and fewer than two brackets or commas for each.
-const MOST_TEXT: usize = 18_432;
-
 // The bytes of a file that count; a missing one is empty.
 fn read_file(rt: &HostRuntime, path: &str) -> io::Result<Vec<u8>> {
     let mut text = Vec::new(rt.alloc());
@@ -29,30 +25,21 @@ fn read_file(rt: &HostRuntime, path: &str) -> io::Result<Vec<u8>> {
     }
 }
 
-fn print_text(rt: &HostRuntime, names: &Names, codes: &[u16]) -> io::Result<()> {
-    let mut text = vec![in rt.alloc(); 0u8; MOST_TEXT]?;
-    match print_term(names, codes, &mut text) {
-        Ok(len) => {
-            print!(rt; "term ")?;
-            rt.stdout().write_all(&text[0..len])?;
-            println!(rt; "")
-        }
-        Err(fault) => println!(rt; "{fault}"),
-    }
-}
-
 fn run(rt: &HostRuntime, mut opened: Opened) -> io::Result<()> {
     let rules = opened.subject.system().rules().len();
     let symbols = opened.names.signature().arities().len();
     let Trip { end, steps } = follow(&mut opened.subject);
     println!(rt; "rules {rules} symbols {symbols}")?;
     println!(rt; "steps {steps}")?;
-    print_text(rt, &opened.names, opened.subject.codes())?;
-    match end {
-        End::Normal => Ok(()),
-        End::More => println!(rt; "ended more"),
-        End::TooLong => println!(rt; "ended 42"),
+    let term = NamedTerm {
+        names: &opened.names,
+        codes: opened.subject.codes(),
+    };
+    println!(rt; "term {term}")?;
+    if end != End::Normal {
+        println!(rt; "ended {end}")?;
     }
+    Ok(())
 }
 
 fn main(rt: HostRuntime) -> io::Result<()> {

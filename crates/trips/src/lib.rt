@@ -1,12 +1,15 @@
 // Trips: a term is rewritten at its first redex, step by step, until there is none.
 #![tactic(auto)]
 
-ghost use Rattle.std.specs.Prelude.{◌≡◌, IfOk, IfErr};
+ghost use Rattle.std.specs.Prelude.{◌≡◌, Some, IfOk, IfErr};
 ghost use Rattle.rewriting.specs.Subjects.{rules_in, term_in};
+ghost use Rattle.trips.specs.Ends.{end_word};
 ghost use Rattle.trips.specs.Trips.{Advanced, Reached, Followed};
+ghost use Rattle.trips.specs.Visits.{Visited};
 
 use rewriting::{RewriteFault, Subject};
 use std::convert::Infallible;
+use std::fmt;
 
 // Until pools and jobs give a trip its reserve, this many steps are made at most.
 pub const MOST_STEPS: u64 = 1_000_000;
@@ -16,6 +19,19 @@ pub enum End {
     Normal,
     More,
     TooLong,
+}
+
+// A next term that is too long shows as the number of that refusal.
+impl fmt::Display for End {
+    ghost output = { λ end. Some (end_word end) };
+
+    fn fmt<W: fmt::Write>(&self, f: &mut fmt::Formatter<W>) -> fmt::Result {
+        f.write_str(match self {
+            End::Normal => "normal",
+            End::More => "more",
+            End::TooLong => "42",
+        })
+    }
 }
 
 #[derive(Clone, Copy, PartialEq, Eq, Debug)]
@@ -36,8 +52,8 @@ pub fn step_on(subject: &mut Subject) -> Result<Option<(usize, usize)>, RewriteF
     Ok(Some((place, rule)))
 }
 
-// Shows each step's place and rule to `visit`; what is left is the last term of a derivation from the first, also where
-// `visit` stops it.
+// Shows each step's place and rule to `visit`, once and in order; what is left is the last term of a derivation from the
+// first, also where `visit` stops it.
 pub fn follow_with<E, F: FnMut(usize, usize) -> Result<(), E>>(
     subject: &mut Subject,
     mut visit: F,
@@ -46,6 +62,7 @@ pub fn follow_with<E, F: FnMut(usize, usize) -> Result<(), E>>(
     ensures same { subject.new.system ≡ subject.old.system }
     ensures means { IfOk result (λ trip. Followed (rules_in subject.old) (term_in subject.old) trip (term_in subject.new)) }
     ensures stopped { IfErr result (λ _. Reached (rules_in subject.old) (term_in subject.old) (term_in subject.new)) }
+    ensures shown { Visited F.step (rules_in subject.old) (term_in subject.old) visit result (term_in subject.new) }
 {
     for steps in 0..MOST_STEPS {
         match step_on(subject) {

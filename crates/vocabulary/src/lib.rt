@@ -17,16 +17,12 @@ mod tests {
     use std::test::Fail;
     use tokens::Name;
 
-    fn name(bytes: &[u8]) -> Result<Name, Fail> {
-        Name::new(bytes).ok_or_else(|| Fail::new("no name"))
-    }
-
     #[test]
     fn names_are_numbered_by_first_appearance(rt: HostRuntime) -> Result<(), Fail> {
         let mut vocabulary = Vocabulary::new();
-        let x = name(b"x")?;
-        let add = name(b"add")?;
-        let z = name(b"z")?;
+        let x = Name::new(b"x").unwrap();
+        let add = Name::new(b"add").unwrap();
+        let z = Name::new(b"z").unwrap();
         assert!(rt; vocabulary.declare(&x) == Ok(()));
         assert!(rt; vocabulary.number(&add) == Ok(0));
         assert!(rt; vocabulary.number(&z) == Ok(1));

@@ -1,2 +1,4 @@
 pub mod Cases
+pub mod Additions
 pub mod Views
+pub mod Lines

@@ -6,9 +6,13 @@ ghost use Rattle.worked.specs.Cases.{AllHold, worked};
 
 mod list;
 mod question;
+mod report;
+mod system;
 
 pub use list::{Case, worked_cases};
 pub use question::Question;
+pub use report::Report;
+pub use system::addition;
 
 // What the definitions say of every worked case.
 pub fn worked_cases_hold()

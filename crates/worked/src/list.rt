@@ -4,14 +4,29 @@ ghost use Rattle.worked.specs.Cases.{worked};
 ghost use Rattle.worked.specs.Views.{cases_of};
 
 use crate::question::Question;
+use crate::report::Report;
 
 #[derive(Clone, Copy)]
-pub struct Case {
-    pub question: Question,
-    pub expected: bool,
+pub struct Case<Q, A> {
+    pub question: Q,
+    pub expected: A,
 }
 
-pub fn worked_cases() -> [Case; 6]
+impl<Q: Copy, A: Copy> Case<Q, A> {
+    pub fn report(&self, answer: A) -> Report<Q, A>
+        ensures question { result.question ≡ self.now.question }
+        ensures answer { result.answer ≡ answer }
+        ensures expected { result.expected ≡ self.now.expected }
+    {
+        Report {
+            question: self.question,
+            answer,
+            expected: self.expected,
+        }
+    }
+}
+
+pub fn worked_cases() -> [Case<Question, bool>; 6]
     ensures { cases_of result ≡ worked }
 {
     [

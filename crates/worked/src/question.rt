@@ -1,12 +1,13 @@
 // Questions over addition: add, z and s are numbered 0, 1 and 2, the variables a and b 0 and 1.
-ghost use Rattle.std.specs.Prelude.{◌≡◌};
+ghost use Rattle.std.specs.Prelude.{◌≡◌, Some};
 ghost use Rattle.worked.specs.Cases.{answered};
 ghost use Rattle.worked.specs.Views.{question_of};
+ghost use Rattle.worked.specs.Lines.{question_text};
 
+use crate::system::addition;
 use rewriting::matches;
 use std::fmt;
-use std::fmt::Write;
-use terms::Signature;
+use terms::Codes;
 
 #[derive(Clone, Copy)]
 pub enum Question {
@@ -19,37 +20,24 @@ impl Question {
     pub fn answer(&self) -> bool
         ensures { result ≡ answered (question_of self.now) }
     {
-        let Ok(signature) = Signature::new(&[2, 0, 1]) else {
-            return false;
-        };
+        let system = addition();
         match *self {
-            Question::IsTerm(codes) => signature.is_term(codes),
+            Question::IsTerm(codes) => system.signature().is_term(codes),
             Question::Matches(pattern, subject) => {
-                matches(&signature, pattern, subject, 0).unwrap_or(false)
+                matches(system.signature(), pattern, subject, 0).unwrap_or(false)
             }
         }
     }
 }
 
-fn write_codes<W: Write>(f: &mut fmt::Formatter<W>, codes: &[u16]) -> fmt::Result {
-    for code in codes {
-        write!(f, " {code}")?;
-    }
-    Ok(())
-}
-
 impl fmt::Display for Question {
-    fn fmt<W: Write>(&self, f: &mut fmt::Formatter<W>) -> fmt::Result {
+    ghost output = { λ q. Some (question_text (question_of q)) };
+
+    fn fmt<W: fmt::Write>(&self, f: &mut fmt::Formatter<W>) -> fmt::Result {
         match *self {
-            Question::IsTerm(codes) => {
-                write!(f, "term")?;
-                write_codes(f, codes)
-            }
+            Question::IsTerm(codes) => write!(f, "term{}", Codes(codes)),
             Question::Matches(pattern, subject) => {
-                write!(f, "match")?;
-                write_codes(f, pattern)?;
-                write!(f, " with")?;
-                write_codes(f, subject)
+                write!(f, "match{} with{}", Codes(pattern), Codes(subject))
             }
         }
     }

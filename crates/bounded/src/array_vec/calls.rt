@@ -5,6 +5,7 @@ ghost use Rattle.std.specs.Cmp.Lexicographic.{pointwise, lists_per, lists_equiv}
 ghost use Rattle.bounded.specs.Items.{items, room, grown, Popped};
 
 use crate::array_vec::{ArrayVec, Full};
+use std::fmt;
 
 #[tactic(auto, unfolding(crate::specs::Items::items))]
 impl<T: Copy, const N: usize> ArrayVec<T, N> {
@@ -67,12 +68,8 @@ impl<T: Copy, const N: usize> ArrayVec<T, N> {
     pub fn pop(&mut self) -> Option<T>
         ensures { Popped (items self.old) result (items self.new) }
     {
-        if self.len == 0 {
-            return None;
-        }
-        let last = self.len - 1;
-        self.len = last;
-        Some(self.slots[last])
+        self.len = self.len.checked_sub(1)?;
+        Some(self.slots[self.len])
     }
 
     // Another item at a place, and the one that stood there; none where there is no such place.
@@ -80,10 +77,7 @@ impl<T: Copy, const N: usize> ArrayVec<T, N> {
         ensures was { result ≡ slice_get (items self.old) place }
         ensures items { items self.new ≡ slice_set (items self.old) place item }
     {
-        if place >= self.len {
-            return None;
-        }
-        let was = self.slots[place];
+        let was = *self.as_slice().get(place)?;
         self.slots[place] = item;
         Some(was)
     }
@@ -108,4 +102,10 @@ impl<T: PartialEq + Copy, const N: usize> PartialEq for ArrayVec<T, N> {
 
 impl<T: Eq + Copy, const N: usize> Eq for ArrayVec<T, N> {
     ghost laws = { on_equiv items (lists_equiv T.Eq.laws) };
+}
+
+impl<T: fmt::Debug + Copy, const N: usize> fmt::Debug for ArrayVec<T, N> {
+    fn fmt<W: fmt::Write>(&self, f: &mut fmt::Formatter<W>) -> fmt::Result {
+        self.as_slice().fmt(f)
+    }
 }

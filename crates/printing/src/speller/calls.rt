@@ -1,28 +1,32 @@
 // Word by word.
-ghost use Rattle.std.specs.Prelude.{◌≡◌, ◌≤◌, [], length};
+ghost use Rattle.std.specs.Prelude.{◌≡◌};
 ghost use Rattle.std.specs.Iterator.{YieldsFirstBy, item_count};
+ghost use Rattle.std.specs.Option.{option_map};
 ghost use Rattle.vocabulary.specs.Naming.{naming_of};
 ghost use Rattle.printing.specs.Pieces.{piece_word};
-ghost use Rattle.printing.specs.Showing.{shown};
 ghost use Rattle.printing.specs.Spellers.{words_left};
+ghost use Rattle.printing.specs.Replies.{words_reply};
 ghost use Rattle.printing.specs.declared.speller.Wants.{Wants};
 
+use crate::named_term::NamedTerm;
 use crate::piece::Piece;
 use crate::speller::{Speller, Wants};
 use bounded::ArrayVec;
-use vocabulary::Names;
 
 impl<'a> Speller<'a> {
-    pub(crate) fn new(names: &'a Names, codes: &'a [u16]) -> Speller<'a>
-        requires { length codes.now ≤ 1024 }
-        ensures { words_left result ≡ shown (naming_of names.now) [] codes.now }
+    // None unless the codes are a term whose variables are declared.
+    pub(crate) fn new(term: NamedTerm<'a>) -> Option<Speller<'a>>
+        ensures { option_map words_left result ≡ words_reply (naming_of term.entry.names.now) term.entry.codes.now }
     {
-        Speller {
-            names,
-            codes,
+        if !term.is_printable() {
+            return None;
+        }
+        Some(Speller {
+            names: term.names,
+            codes: term.codes,
             pending: ArrayVec::new(0),
             wants: Wants::Code,
-        }
+        })
     }
 
     // The name of the next code; a symbol with arguments awaits them.

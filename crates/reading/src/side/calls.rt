@@ -7,6 +7,7 @@ ghost use Rattle.vocabulary.specs.Models.{vocabulary_of};
 ghost use Rattle.reading.specs.Sides.{fresh, is_full, is_whole, use_symbol, at_term};
 ghost use Rattle.reading.specs.Models.{role_of, state_of, reply_of, Admits, Opens, Continues, close_use, side_step, UsesVariable, Numbers, Stands};
 
+use crate::lookahead::Lookahead;
 use crate::role::Role;
 use crate::side::Side;
 use crate::state::{Await, Use};
@@ -165,18 +166,17 @@ impl Side {
         Ok(())
     }
 
-    // One token, where `bare` says that no bracket follows it. The text's end comes too early.
+    // One token. The text's end comes too early.
     pub fn step(
         &mut self,
         role: &Role,
         vocabulary: &mut Vocabulary,
-        token: &Token,
-        bare: bool,
+        ahead: &Lookahead,
     ) -> Result<(), Flaw>
-        ensures { reply_of result (vocabulary_of vocabulary.new) (state_of self.new) ≡ side_step (role_of role.now) (vocabulary_of vocabulary.old) (state_of self.old) (word_of token.now) bare }
+        ensures { reply_of result (vocabulary_of vocabulary.new) (state_of self.new) ≡ side_step (role_of role.now) (vocabulary_of vocabulary.old) (state_of self.old) (word_of ahead.now.token) ahead.now.bare }
     {
-        match (self.awaits, token) {
-            (Await::Term, Token::Named(name)) => self.begin(role, vocabulary, name, bare),
+        match (self.awaits, &ahead.token) {
+            (Await::Term, Token::Named(name)) => self.begin(role, vocabulary, name, ahead.bare),
             (Await::Term, Token::Long) => Err(Flaw::LongName),
             (Await::Bracket, Token::Open) => self.open(),
             (Await::After, Token::Comma) => self.comma(),

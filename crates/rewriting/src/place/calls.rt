@@ -1,15 +1,32 @@
-// The checked constructor, and where the subterm ends.
-ghost use Rattle.std.specs.Prelude.{◌≡◌, ◌+◌, ◌≤◌, length};
+// The checked constructors, and where the subterm ends.
+ghost use Rattle.std.specs.Prelude.{◌≡◌, ◌+◌, ◌≤◌, T, length};
+ghost use Rattle.terms.specs.Codes.{is_term};
 ghost use Rattle.terms.specs.Models.{arities_of};
 ghost use Rattle.terms.specs.Replies.{viewed};
 ghost use Rattle.terms.specs.Terms.{size};
-ghost use Rattle.rewriting.specs.Places.{spot_of, place_reply, subterm};
+ghost use Rattle.rewriting.specs.Places.{Placed, spot_of, place_reply, subterm};
 
 use crate::fault::RewriteFault;
 use crate::place::Place;
 use terms::Signature;
 
 impl<'a> Place<'a> {
+    // None where the term has no such place.
+    pub(crate) fn inside(signature: &'a Signature, codes: &'a [u16], at: usize) -> Option<Place<'a>>
+        requires { T (is_term (arities_of signature.now) codes.now) }
+        ensures { Placed (arities_of signature.now) codes.now at result }
+    {
+        if at >= codes.len() {
+            return None;
+        }
+        Some(Place {
+            signature,
+            codes,
+            at,
+        })
+    }
+
+    // The same of codes that may be no term.
     pub(crate) fn new(
         signature: &'a Signature,
         codes: &'a [u16],
@@ -20,14 +37,7 @@ impl<'a> Place<'a> {
         if !signature.is_term(codes) {
             return Err(RewriteFault::Malformed);
         }
-        if at >= codes.len() {
-            return Err(RewriteFault::NoPlace);
-        }
-        Ok(Place {
-            signature,
-            codes,
-            at,
-        })
+        Place::inside(signature, codes, at).ok_or(RewriteFault::NoPlace)
     }
 
     pub(crate) fn end(&self) -> usize

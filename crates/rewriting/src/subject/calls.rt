@@ -50,11 +50,7 @@ impl Subject {
         requires { at < length (codes_in self.now) }
         ensures { result ≡ lowest_rule_of (rules_in self.now) (sub_at (arities_in self.now) (codes_in self.now) at) }
     {
-        let place = Place {
-            signature: self.system.signature(),
-            codes: self.codes(),
-            at,
-        };
+        let place = Place::inside(self.system.signature(), self.codes(), at)?;
         place.lowest_rule(self.system.rules())
     }
 
@@ -80,15 +76,8 @@ impl Subject {
         ensures means { Rewrites (rules_in self.old) (term_in self.old) rule place result (term_in self.new) }
     {
         let rule = self.system.rules().get(rule).ok_or(RewriteFault::NoRule)?;
-        let codes = self.term.as_slice();
-        if place >= codes.len() {
-            return Err(RewriteFault::NoPlace);
-        }
-        let place = Place {
-            signature: self.system.signature(),
-            codes,
-            at: place,
-        };
+        let place = Place::inside(self.system.signature(), self.term.as_slice(), place);
+        let place = place.ok_or(RewriteFault::NoPlace)?;
         place.step_into(rule, &mut self.next)?;
         self.term = self.next;
         Ok(())

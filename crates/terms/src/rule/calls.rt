@@ -25,7 +25,8 @@ fn covers_variables(left: &[u16], right: &[u16]) -> bool
         .all(|code| *code < FIRST_VARIABLE || has_code(left, *code))
 }
 
-fn starts_with_symbol(codes: &[u16]) -> bool
+// Whether codes begin with a symbol's, as those of a term do that is no variable.
+pub fn starts_with_symbol(codes: &[u16]) -> bool
     ensures { result ≡ starts_with_symbol codes.now }
 {
     codes.first().is_some_and(|code| *code < FIRST_VARIABLE)

@@ -1,6 +1,8 @@
 // Codes under a signature: are they a term, and where does a subterm end?
 ghost use Rattle.std.specs.Prelude.{◌≡◌, ◌-◌, ◌≤◌, length, is_ok};
-ghost use Rattle.terms.specs.Codes.{arity, known, is_term};
+ghost use Rattle.std.specs.List.{list_all};
+ghost use Rattle.terms.specs.Limits.{most_term};
+ghost use Rattle.terms.specs.Codes.{arity, known, is_term, first_terms};
 ghost use Rattle.terms.specs.Shapes.{all_within, is_rule};
 ghost use Rattle.terms.specs.Models.{arities_of};
 ghost use Rattle.terms.specs.Replies.{viewed, signature_reply, span_reply, end_reply};
@@ -61,6 +63,27 @@ impl Signature {
         }
     }
 
+    fn are_known(&self, codes: &[u16]) -> bool
+        ensures { result ≡ list_all (known (arities_of self.now)) codes.now }
+    {
+        codes.iter().all(|code| self.is_known(*code))
+    }
+
+    // How many codes the first term takes; none where the codes end before it is complete.
+    fn first_term(&self, codes: &[u16]) -> Option<usize>
+        requires { length codes.now ≤ most_term }
+        ensures { result ≡ first_terms (arities_of self.now) 1 codes.now }
+    {
+        let mut need: usize = 1;
+        for (taken, code) in codes.iter().enumerate() {
+            if need == 0 {
+                return Some(taken);
+            }
+            need = need - 1 + self.arity(*code);
+        }
+        (need == 0).then_some(codes.len())
+    }
+
     // Whether codes are a term of at most 1,024 codes.
     pub fn is_term(&self, codes: &[u16]) -> bool
         ensures value { result ≡ is_term (arities_of self.now) codes.now }
@@ -69,17 +92,7 @@ impl Signature {
         if codes.len() > MOST_TERM {
             return false;
         }
-        let mut need: usize = 1;
-        for code in codes {
-            if need == 0 {
-                return false;
-            }
-            if !self.is_known(*code) {
-                return false;
-            }
-            need = need - 1 + self.arity(*code);
-        }
-        need == 0
+        self.are_known(codes) && self.first_term(codes) == Some(codes.len())
     }
 
     // How many codes the subterm at a place takes, by counting; nothing is asked of the codes.
@@ -91,14 +104,7 @@ impl Signature {
             return 0;
         }
         let rest = codes.get(at..).unwrap_or(&[]);
-        let mut need: usize = 1;
-        for (taken, code) in rest.iter().enumerate() {
-            if need == 0 {
-                return taken;
-            }
-            need = need - 1 + self.arity(*code);
-        }
-        rest.len()
+        self.first_term(rest).unwrap_or(rest.len())
     }
 
     // Where the subterm at a place ends; none if the codes are no term, or have no such place.

@@ -14,12 +14,9 @@ use bounded::ArrayVec;
 fn are_rules(signature: &Signature, rules: &[Rule]) -> bool
     ensures { result ≡ all_rules (arities_of signature.now) (all_sides rules.now) }
 {
-    for rule in rules {
-        if !signature.is_rule(rule.left(), rule.right()) {
-            return false;
-        }
-    }
-    true
+    rules
+        .iter()
+        .all(|rule| signature.is_rule(rule.left(), rule.right()))
 }
 
 impl System {

@@ -1,15 +1,15 @@
 // A text read token by token.
-ghost use Rattle.std.specs.Prelude.{◌≡◌};
+ghost use Rattle.std.specs.Prelude.{◌≡◌, cond};
 ghost use Rattle.tokens.specs.Lexing.{word_of};
 ghost use Rattle.vocabulary.specs.Models.{vocabulary_of};
-ghost use Rattle.reading.specs.Documents.{rule_text, start_term, may_end};
+ghost use Rattle.vocabulary.specs.declared.flaw.Flaw.TheVariants.{Misplaced};
+ghost use Rattle.reading.specs.Documents.{Move.to, Move.flawed, rule_text, start_term, may_end};
 ghost use Rattle.texts.specs.Documents.{document_of, moved, token_move};
 
 use crate::document::Document;
 use crate::parts::{Parts, Phase};
-use reading::{Block, Role};
+use reading::{Block, Lookahead, Role};
 use std::mem;
-use tokens::Token;
 use vocabulary::{Flaw, Vocabulary};
 
 impl Document {
@@ -32,20 +32,23 @@ impl Document {
         }
     }
 
-    // One token, where `bare` says that no bracket follows it. The text's end comes too early.
-    pub(crate) fn step(&mut self, token: &Token, bare: bool) -> Result<(), Flaw>
-        ensures { moved result (document_of self.new) ≡ token_move (document_of self.old) (word_of token.now) bare }
+    // One token. The text's end comes too early.
+    pub(crate) fn step(&mut self, ahead: &Lookahead) -> Result<(), Flaw>
+        ensures { moved result (document_of self.new) ≡ token_move (document_of self.old) (word_of ahead.now.token) ahead.now.bare }
     {
         // Behind a refusal nothing is read.
         let phase = mem::replace(&mut self.phase, Phase::Closed);
-        self.phase = self.parts.step(phase, token, bare)?;
+        self.phase = self.parts.step(phase, ahead)?;
         Ok(())
     }
 
-    // Whether the text may end here.
-    pub(crate) fn may_end(&self) -> bool
-        ensures { result ≡ may_end (document_of self.now).phase }
+    // The text's end, which may come too early.
+    pub(crate) fn end(&self) -> Result<(), Flaw>
+        ensures { moved result (document_of self.now) ≡ cond (may_end (document_of self.now).phase) (to (document_of self.now)) (flawed Misplaced) }
     {
-        matches!(self.phase, Phase::Closed | Phase::Ended)
+        match self.phase {
+            Phase::Closed | Phase::Ended => Ok(()),
+            _ => Err(Flaw::Misplaced),
+        }
     }
 }

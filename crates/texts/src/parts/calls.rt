@@ -1,7 +1,6 @@
 // What each token adds to a text, and what is awaited behind it.
 ghost use Rattle.std.specs.Prelude.{◌≡◌, true, [], length};
 ghost use Rattle.tokens.specs.Lexing.{word_of};
-ghost use Rattle.terms.specs.Shapes.{starts_with_symbol};
 ghost use Rattle.bounded.specs.Items.{items};
 ghost use Rattle.vocabulary.specs.Models.{vocabulary_of};
 ghost use Rattle.reading.specs.Sides.{fresh};
@@ -13,8 +12,8 @@ ghost use Rattle.texts.specs.Documents.{goes_on, token_move, Follows};
 
 use crate::parts::{Parts, Phase, RuleCodes};
 use bounded::ArrayVec;
-use reading::{Block, Role, Side};
-use terms::{FIRST_VARIABLE, MOST_RULES};
+use reading::{Block, Lookahead, Role, Side};
+use terms::{MOST_RULES, starts_with_symbol};
 use tokens::Token;
 use vocabulary::{Flaw, Vocabulary};
 
@@ -25,12 +24,6 @@ fn keyword_of(block: Block) -> &'static [u8]
         Block::Variables => b"VAR",
         Block::Rules => b"RULES",
     }
-}
-
-fn starts_with_symbol(codes: &[u16]) -> bool
-    ensures { result ≡ starts_with_symbol codes.now }
-{
-    codes.first().is_some_and(|code| *code < FIRST_VARIABLE)
 }
 
 fn bracket(block: Block, token: &Token) -> Result<Phase, Flaw>
@@ -86,11 +79,11 @@ impl Parts {
     }
 
     // One token of a term, and what follows a whole one.
-    fn inside(&mut self, role: Role, token: &Token, bare: bool) -> Result<Phase, Flaw>
+    fn inside(&mut self, role: Role, ahead: &Lookahead) -> Result<Phase, Flaw>
         requires { Held (vocabulary_of self.old.vocabulary) (rules_of (items self.old.rules)) (inside (role_of role) (state_of self.old.side)) }
-        ensures { goes_on result self.new ≡ token_move (with_phase self.old (inside (role_of role) (state_of self.old.side))) (word_of token.now) bare }
+        ensures { goes_on result self.new ≡ token_move (with_phase self.old (inside (role_of role) (state_of self.old.side))) (word_of ahead.now.token) ahead.now.bare }
     {
-        self.side.step(&role, &mut self.vocabulary, token, bare)?;
+        self.side.step(&role, &mut self.vocabulary, ahead)?;
         if !self.side.is_whole() {
             return Ok(Phase::Inside(role));
         }
@@ -107,14 +100,14 @@ impl Parts {
     }
 
     // A rule, or the end of their block.
-    fn rule(&mut self, token: &Token, bare: bool) -> Result<Phase, Flaw>
-        ensures { goes_on result self.new ≡ token_move (with_phase self.old rule) (word_of token.now) bare }
+    fn rule(&mut self, ahead: &Lookahead) -> Result<Phase, Flaw>
+        ensures { goes_on result self.new ≡ token_move (with_phase self.old rule) (word_of ahead.now.token) ahead.now.bare }
     {
-        match token {
+        match &ahead.token {
             Token::Named(_) if self.rules.as_slice().len() >= MOST_RULES => Err(Flaw::TooMany),
             Token::Named(_) => {
                 self.side.restart();
-                self.inside(Role::Left, token, bare)
+                self.inside(Role::Left, ahead)
             }
             Token::Close => Ok(Phase::Closed),
             Token::Long => Err(Flaw::LongName),
@@ -137,17 +130,17 @@ impl Parts {
     }
 
     // By what is awaited.
-    pub(crate) fn step(&mut self, phase: Phase, token: &Token, bare: bool) -> Result<Phase, Flaw>
+    pub(crate) fn step(&mut self, phase: Phase, ahead: &Lookahead) -> Result<Phase, Flaw>
         requires { Held (vocabulary_of self.old.vocabulary) (rules_of (items self.old.rules)) (phase_of phase self.old.side) }
-        ensures { goes_on result self.new ≡ token_move (with_phase self.old (phase_of phase self.old.side)) (word_of token.now) bare }
+        ensures { goes_on result self.new ≡ token_move (with_phase self.old (phase_of phase self.old.side)) (word_of ahead.now.token) ahead.now.bare }
     {
         match phase {
-            Phase::Bracket(block) => bracket(block, token),
-            Phase::Keyword(block) => keyword(block, token),
-            Phase::Variable => self.variable(token),
-            Phase::Rule => self.rule(token, bare),
-            Phase::Arrow(left) => self.arrow(left, token),
-            Phase::Inside(role) => self.inside(role, token, bare),
+            Phase::Bracket(block) => bracket(block, &ahead.token),
+            Phase::Keyword(block) => keyword(block, &ahead.token),
+            Phase::Variable => self.variable(&ahead.token),
+            Phase::Rule => self.rule(ahead),
+            Phase::Arrow(left) => self.arrow(left, &ahead.token),
+            Phase::Inside(role) => self.inside(role, ahead),
             Phase::Closed | Phase::Ended => Err(Flaw::Misplaced),
         }
     }

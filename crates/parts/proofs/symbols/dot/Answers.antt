@@ -6,7 +6,7 @@ use Rattle.std.proofs.lemmas.Iterator.{YieldsList-from_map, YieldsList-from_slic
 use Rattle.std.proofs.lemmas.Iterator.Consumers.{fits_by_from_yields_list, sum_by_from_yields_List}
 use Rattle.algebras.specs.Meanings.{reach}
 use Rattle.parts.specs.Vectors.{dotted}
-use Rattle.parts.proofs.Weighing.{product-le, dotted-le}
+use Rattle.parts.proofs.Weighing.{product_small, dotted-le}
 use Rattle.parts.proofs.symbols.dot.Goals as goal
 
 pub sum-requires-clause-can : goal.sum-requires-clause-can
@@ -18,7 +18,7 @@ sum-requires-clause-can c = (
       let value : get_or c.args.values.now (length xs) 0 ≤ reach = c.requires (length xs) 0 turn.1 in
       let e = turn.2 0 in
       let v = turn.3 0 in
-      let fits : x.0.now * x.1.now < 2 ^ 64 = omega (arith, product-le x.0.now x.1.now (omega arith) (omega arith)) in
+      let fits : x.0.now * x.1.now < 2 ^ 64 = omega (arith, product_small x.0.now x.1.now (omega arith) (omega arith)) in
       search (rules, fits)),
 )
 

@@ -1,17 +1,13 @@
-use Rattle.std.proofs.Common.{true, false, sym, ◌∙◌}
-use Rattle.terms.specs.Models.{arities_of}
-use Rattle.terms.proofs.Listed.{rules_next, rules_end}
+use Rattle.std.proofs.Common.{◌∙◌, sym, rules, tests}
+use Rattle.std.proofs.lemmas.Iterator.{YieldsList-from_slice}
+use Rattle.std.proofs.lemmas.Iterator.Search.{all_from_yields_List}
+use Rattle.std.proofs.lemmas.List.Folds.{list_all-map}
+use Rattle.terms.specs.Models.{arities_of, sides_of}
+use Rattle.terms.specs.Shapes.{is_rule}
 use Rattle.terms.proofs.system.calls.are_rules.Goals as goal
 
-pub returns-then-not-is_rule : goal.returns-then-not-is_rule
-returns-then-not-is_rule c =
-    sym (c.loop-rule.invariant ∙ rules_next (arities_of c.args.signature.now) c.args.rules.now c.loop-rule.rule-index c.rule-item.result c.loop-rule-test.true c.rule-item.is
-    c.left.result.now c.right.result.now c.left.ensures c.right.ensures false c.if-not-is_rule.ensures.value)
-
-pub loop-rule-preserved : goal.loop-rule-preserved
-loop-rule-preserved c =
-    c.loop-rule.invariant ∙ rules_next (arities_of c.args.signature.now) c.args.rules.now c.loop-rule.rule-index c.rule-item.result c.loop-rule-test.true c.rule-item.is
-    c.left.result.now c.right.result.now c.left.ensures c.right.ensures true c.if-not-is_rule.ensures.value
-
 pub returns : goal.returns
-returns c = sym (c.loop-rule.invariant ∙ rules_end (arities_of c.args.signature.now) c.args.rules.now c.loop-rule.rule-index c.loop-rule-test.false)
+returns c =
+    let sig = arities_of c.args.signature.now in
+    all_from_yields_List (λ r. is_rule sig (sides_of r).left (sides_of r).right) _ _ _ c.all.ensures.ran (YieldsList-from_slice c.args.rules.now (cc)) (λ x b q k. search (rules, tests))
+    ∙ sym (list_all-map (λ s. is_rule sig s.left s.right) sides_of c.args.rules.now)
