@@ -1,8 +1,18 @@
 // The worked cases, run through the code: one line a case, and whether the answer is the expected one.
 #![tactic(auto)]
 
+ghost use Rattle.cases.specs.Cases.{AllHold, worked};
+
+mod list;
+mod question;
+
+use list::worked_cases;
 use std::io;
-use worked::{worked_cases, worked_cases_hold};
+
+// What the definitions say of every worked case.
+pub fn worked_cases_hold()
+    ensures { AllHold worked }
+{}
 
 fn main(rt: HostRuntime) -> io::Result<()> {
     worked_cases_hold();

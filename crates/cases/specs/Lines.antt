@@ -2,9 +2,9 @@
 use Rattle.std.specs.Prelude.{ℕ, List, true, false, ◌++◌, Ok, Err, codes}
 use Rattle.refusals.specs.Lines.{line}
 use Rattle.worked.specs.Lines as on_codes
-use Rattle.text_cases.specs.declared.question.Answer.{Answer}
-use Rattle.text_cases.specs.declared.question.Answer.TheVariants.{OnCodes, RuleText}
-use Rattle.text_cases.specs.Cases.{Question, Question.asked, Question.rule_text}
+use Rattle.cases.specs.declared.question.Answer.{Answer}
+use Rattle.cases.specs.declared.question.Answer.TheVariants.{OnCodes, RuleText}
+use Rattle.cases.specs.Cases.{Question, Question.asked, Question.rule_text}
 
 abbrev pub question_text : Question → List ℕ
 question_text (asked q) = on_codes.question_text q

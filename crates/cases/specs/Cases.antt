@@ -6,8 +6,8 @@ use Rattle.worked.specs.Cases as on_codes
 use Rattle.texts.specs.declared.fault.TextFault.{TextFault}
 use Rattle.texts.specs.Faults.{text_refusal}
 use Rattle.texts.specs.Systems.{Said, rules_reply}
-use Rattle.text_cases.specs.declared.question.Answer.{Answer}
-use Rattle.text_cases.specs.declared.question.Answer.TheVariants.{OnCodes, RuleText}
+use Rattle.cases.specs.declared.question.Answer.{Answer}
+use Rattle.cases.specs.declared.question.Answer.TheVariants.{OnCodes, RuleText}
 
 -- a question on codes, or what a rule text comes to
 pub data Question : Type 0 where

@@ -2,7 +2,7 @@ use Rattle.std.proofs.Common.{◌≡◌, true, false, Bool, T, Ok, Err, cond, is
 use Rattle.terms.specs.Codes.{is_term}
 use Rattle.terms.specs.Replies.{viewed}
 use Rattle.terms.specs.Systems.{signature_of}
-use Rattle.trip.proofs.opening.open.Goals as goal
+use Rattle.reserve.proofs.opening.open.Goals as goal
 
 -- an answer that goes by a test is given where the test holds
 given : {X Y E : Type 0} (f : X → Y) (r : Result X E) (b : Bool) (y : Y) (e : E) → T b → viewed f r ≡ cond b (Ok y) (Err e) → is_ok r ≡ true

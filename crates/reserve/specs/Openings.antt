@@ -7,7 +7,7 @@ use Rattle.vocabulary.specs.Naming.{naming_of}
 use Rattle.texts.specs.declared.fault.TextFault.{TextFault}
 use Rattle.texts.specs.Systems.{Said, rules_reply, term_reply}
 use Rattle.rewriting.specs.Subjects.{codes_in}
-use Rattle.trip.specs.declared.opening.Opened.{Opened}
+use Rattle.reserve.specs.declared.opening.Opened.{Opened}
 
 -- names, rules and the codes of the start term
 pub record Start : Type 0 where

@@ -2,10 +2,10 @@
 use Rattle.std.specs.Prelude.{List, map}
 use Rattle.worked.specs.Views as on_codes
 use Rattle.worked.specs.declared.list.Case as held
-use Rattle.text_cases.specs.declared.question.Answer.{Answer}
-use Rattle.text_cases.specs.declared.question.Question as code
-use Rattle.text_cases.specs.declared.question.Question.TheVariants as question
-use Rattle.text_cases.specs.Cases.{Question, Question.asked, Question.rule_text, Case}
+use Rattle.cases.specs.declared.question.Answer.{Answer}
+use Rattle.cases.specs.declared.question.Question as code
+use Rattle.cases.specs.declared.question.Question.TheVariants as question
+use Rattle.cases.specs.Cases.{Question, Question.asked, Question.rule_text, Case}
 
 abbrev pub question_of : code.Question → Question
 question_of (question.OnCodes q) = asked (on_codes.question_of q)

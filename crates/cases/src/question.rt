@@ -1,8 +1,8 @@
 // Questions on codes, or on a rule text.
 ghost use Rattle.std.specs.Prelude.{◌≡◌, Some};
-ghost use Rattle.text_cases.specs.Cases.{answered};
-ghost use Rattle.text_cases.specs.Lines.{answer_text, question_text};
-ghost use Rattle.text_cases.specs.Views.{question_of};
+ghost use Rattle.cases.specs.Cases.{answered};
+ghost use Rattle.cases.specs.Lines.{answer_text, question_text};
+ghost use Rattle.cases.specs.Views.{question_of};
 
 use refusals::Refusal;
 use std::fmt;

@@ -1,7 +1,7 @@
 // A trip from its two texts.
 ghost use Rattle.std.specs.Prelude.{◌≡◌};
 ghost use Rattle.terms.specs.Replies.{viewed};
-ghost use Rattle.trip.specs.Openings.{opened_as, open_reply};
+ghost use Rattle.reserve.specs.Openings.{opened_as, open_reply};
 
 use rewriting::Subject;
 use texts::{TextFault, read_rules, read_term};

@@ -1,8 +1,8 @@
 // The list: the cases on codes, and one on a text.
 ghost use Rattle.std.specs.Prelude.{◌≡◌};
 ghost use Rattle.worked.specs.Views as on_codes;
-ghost use Rattle.text_cases.specs.Cases.{taken_in, worked};
-ghost use Rattle.text_cases.specs.Views.{case_of, cases_of};
+ghost use Rattle.cases.specs.Cases.{taken_in, worked};
+ghost use Rattle.cases.specs.Views.{case_of, cases_of};
 
 use crate::question::{Answer, Question};
 use refusals::{Layer, Refusal};
