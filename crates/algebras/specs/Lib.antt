@@ -7,3 +7,4 @@ pub mod Laws
 pub mod Bounds
 pub mod Reviews
 pub mod Lawfuls
+pub mod Words

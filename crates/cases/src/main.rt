@@ -1,7 +1,8 @@
 // The worked cases, run through the code: one line a case, and whether the answer is the expected one.
 #![tactic(auto)]
 
-ghost use Rattle.cases.specs.Cases.{AllHold, worked};
+ghost use Rattle.worked.specs.Cases.{AllHold};
+ghost use Rattle.cases.specs.Cases.{answered, worked};
 
 mod list;
 mod question;
@@ -11,12 +12,12 @@ use std::io;
 
 // What the definitions say of every worked case.
 pub fn worked_cases_hold()
-    ensures { AllHold worked }
+    ensures { AllHold answered worked }
 {}
 
 fn main(rt: HostRuntime) -> io::Result<()> {
     worked_cases_hold();
-    for case in worked_cases() {
+    for case in worked_cases().as_slice() {
         println!(rt; "{}", case.report(case.question.answer()))?;
     }
     Ok(())

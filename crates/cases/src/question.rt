@@ -1,4 +1,4 @@
-// Questions on codes, or on a rule text.
+// Questions on codes, on parts, or on a rule text.
 ghost use Rattle.std.specs.Prelude.{◌≡◌, Some};
 ghost use Rattle.cases.specs.Cases.{answered};
 ghost use Rattle.cases.specs.Lines.{answer_text, question_text};
@@ -11,6 +11,7 @@ use texts::read_rules;
 #[derive(Clone, Copy)]
 pub enum Question {
     OnCodes(worked::Question),
+    OnParts(worked_parts::Question),
     // What does a rule text come to?
     RuleText(&'static str),
 }
@@ -18,6 +19,7 @@ pub enum Question {
 #[derive(Clone, Copy, PartialEq, Eq, Debug)]
 pub enum Answer {
     OnCodes(bool),
+    OnParts(worked_parts::Answer),
     RuleText(Result<(), Refusal>),
 }
 
@@ -27,6 +29,7 @@ impl Question {
     {
         match *self {
             Question::OnCodes(question) => Answer::OnCodes(question.answer()),
+            Question::OnParts(question) => Answer::OnParts(question.answer()),
             Question::RuleText(text) => {
                 let read = read_rules(text.as_bytes());
                 Answer::RuleText(read.map(|_| ()).map_err(Refusal::from))
@@ -41,6 +44,7 @@ impl fmt::Display for Question {
     fn fmt<W: fmt::Write>(&self, f: &mut fmt::Formatter<W>) -> fmt::Result {
         match self {
             Question::OnCodes(question) => question.fmt(f),
+            Question::OnParts(question) => question.fmt(f),
             Question::RuleText(text) => write!(f, "rules {text}"),
         }
     }
@@ -52,6 +56,7 @@ impl fmt::Display for Answer {
     fn fmt<W: fmt::Write>(&self, f: &mut fmt::Formatter<W>) -> fmt::Result {
         match self {
             Answer::OnCodes(answer) => answer.fmt(f),
+            Answer::OnParts(answer) => answer.fmt(f),
             Answer::RuleText(Ok(())) => f.write_str("accepted"),
             Answer::RuleText(Err(refusal)) => refusal.fmt(f),
         }

@@ -4,7 +4,9 @@
 ghost use Rattle.std.specs.Prelude.{◌≡◌, length};
 ghost use Rattle.std.specs.List.{list_all, zip};
 ghost use Rattle.forms.specs.Faithful.{covers};
-ghost use Rattle.forms.specs.Replies.{height_reply, compare_reply, forms_order};
+ghost use Rattle.evaluation.specs.Replies.{remembered};
+ghost use Rattle.forms.specs.Columns.{single, forms};
+ghost use Rattle.forms.specs.Replies.{height_reply, compare_reply, forms_order, remembered_both};
 
 pub mod readers;
 pub mod reckoning;
@@ -36,7 +38,8 @@ fn compare_forms<P: Reckoning>(part: &P, left: &Form<P::Vector>, right: &Form<P:
 
 // The height of the term that the codes are, in memory with a place for each.
 pub fn height<P: Reckoning>(part: &P, codes: &[u16], memory: &mut [P::Vector]) -> Option<u64>
-    ensures { result ≡ height_reply (P.meaning part.now) codes.now (length memory.old) }
+    ensures value { result ≡ height_reply (P.meaning part.now) codes.now (length memory.old) }
+    ensures memory { memory.new ≡ remembered (single (P.columns part.now)) (P.meaning part.now).sig codes.now memory.old }
 {
     evaluate(&Heights { part }, codes, memory).map(|vector| part.first(vector))
 }
@@ -48,7 +51,8 @@ pub fn compare<P: Reckoning>(
     right: &[u16],
     memory: &mut [Form<P::Vector>],
 ) -> Option<Order>
-    ensures { result ≡ compare_reply (P.meaning part.now) left.now right.now (length memory.old) }
+    ensures value { result ≡ compare_reply (P.meaning part.now) left.now right.now (length memory.old) }
+    ensures memory { memory.new ≡ remembered_both (forms (P.columns part.now)) (P.meaning part.now).sig left.now right.now memory.old }
 {
     if memory.len() < MOST_SIDE || !part.signature().is_rule(left, right) {
         return None;

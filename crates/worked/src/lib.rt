@@ -1,8 +1,7 @@
 // The worked cases on codes: questions over addition, asked of the code and of the definitions.
 #![tactic(auto)]
 
-ghost use Rattle.std.specs.Prelude.{◌≡◌};
-ghost use Rattle.worked.specs.Cases.{AllHold, worked};
+ghost use Rattle.worked.specs.Cases.{AllHold, answered, worked};
 
 mod list;
 mod question;
@@ -16,5 +15,5 @@ pub use system::addition;
 
 // What the definitions say of every worked case.
 pub fn worked_cases_hold()
-    ensures { AllHold worked }
+    ensures { AllHold answered worked }
 {}

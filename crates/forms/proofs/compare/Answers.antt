@@ -5,8 +5,8 @@ use Rattle.forms.specs.Columns.{forms}
 use Rattle.forms.proofs.Told.{no_left, no_right, both_sides}
 use Rattle.forms.proofs.compare.Goals as goal
 
-pub returns-in_err-left_form : goal.returns-in_err-left_form
-returns-in_err-left_form g c =
+pub returns-in_err-left_form-clause-value : goal.returns-in_err-left_form-clause-value
+returns-in_err-left_form-clause-value g c =
     let p = c.args.part.now in
     let r = g.P.Reckoning in
     let ok : T (is_rule (r.meaning p).sig c.args.left.now c.args.right.now) = search rules in
@@ -15,8 +15,8 @@ returns-in_err-left_form g c =
     ∙ no_left (r.columns p) r.entry (r.meaning p) (g.met.P.Reckoning.faithful p) (g.met.P.Reckoning.limited p) c.signature.result.now c.signature.ensures c.args.left.now c.args.right.now (length c.args.memory.now) ok (omega arith)
     (sym c.in_err-left_form.was ∙ c.evaluate.ensures.value)
 
-pub returns-in_err-right_form : goal.returns-in_err-right_form
-returns-in_err-right_form g c =
+pub returns-in_err-right_form-clause-value : goal.returns-in_err-right_form-clause-value
+returns-in_err-right_form-clause-value g c =
     let p = c.args.part.now in
     let r = g.P.Reckoning in
     let ok : T (is_rule (r.meaning p).sig c.args.left.now c.args.right.now) = search rules in
@@ -25,8 +25,8 @@ returns-in_err-right_form g c =
     ∙ no_right (r.columns p) r.entry (r.meaning p) (g.met.P.Reckoning.faithful p) (g.met.P.Reckoning.limited p) c.signature.result.now c.signature.ensures c.args.left.now c.args.right.now (length c.args.memory.now) ok (omega arith)
     (sym c.in_err-right_form.was ∙ c.evaluate-2.ensures.value ∙ ap (evaluated (forms (r.columns p)) (r.meaning p).sig c.args.right.now) c.evaluate.auto.memory)
 
-pub returns : goal.returns
-returns g c =
+pub returns-clause-value : goal.returns-clause-value
+returns-clause-value g c =
     let p = c.args.part.now in
     let r = g.P.Reckoning in
     let ok : T (is_rule (r.meaning p).sig c.args.left.now c.args.right.now) = search rules in

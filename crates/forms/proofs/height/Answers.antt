@@ -3,8 +3,8 @@ use Rattle.std.specs.Option.{option_map}
 use Rattle.forms.proofs.Told.{told_height}
 use Rattle.forms.proofs.height.Goals as goal
 
-pub returns : goal.returns
-returns g c =
+pub returns-clause-value : goal.returns-clause-value
+returns-clause-value g c =
     let p = c.args.part.now in
     let r = g.P.Reckoning in
     let is : c.map.result ≡ option_map (λ v. r.entry v 0) c.evaluate.result = search rules in

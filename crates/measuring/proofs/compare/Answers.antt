@@ -5,7 +5,7 @@ use Rattle.algebras.specs.declared.fault.AlgebraFault.TheVariants.{RuleOutOfReac
 use Rattle.measuring.proofs.Told.{told_rule}
 use Rattle.measuring.proofs.compare.Goals as goal
 
-pub returns : goal.returns
-returns g c =
-    c.ok_or.ensures.value ∙ ap (λ o. ok_or o RuleOutOfReach) c.compare.ensures
+pub returns-clause-value : goal.returns-clause-value
+returns-clause-value g c =
+    c.ok_or.ensures.value ∙ ap (λ o. ok_or o RuleOutOfReach) c.compare.ensures.value
     ∙ told_rule (g.P.Reckoning.meaning c.args.part.now) (arities_of c.args.signature.now) (cc) (length c.args.memory.now) (omega arith) c.args.left.now c.args.right.now (cc)

@@ -5,7 +5,7 @@ use Rattle.algebras.specs.declared.fault.AlgebraFault.TheVariants.{HeightOutOfRe
 use Rattle.measuring.proofs.Told.{told_height}
 use Rattle.measuring.proofs.measure.Goals as goal
 
-pub returns : goal.returns
-returns g c =
-    c.ok_or.ensures.value ∙ ap (λ o. ok_or o HeightOutOfReach) c.height.ensures
+pub returns-clause-value : goal.returns-clause-value
+returns-clause-value g c =
+    c.ok_or.ensures.value ∙ ap (λ o. ok_or o HeightOutOfReach) c.height.ensures.value
     ∙ told_height (g.P.Reckoning.meaning c.args.part.now) (arities_of c.args.signature.now) (cc) (length c.args.memory.now) (omega arith) c.args.codes.now (cc)
