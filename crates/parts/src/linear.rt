@@ -7,6 +7,7 @@ use terms::Signature;
 
 pub mod algebra;
 pub mod calls;
+pub mod given;
 
 // What a symbol adds, and the factor of each argument.
 #[derive(Clone, Copy)]

@@ -7,6 +7,7 @@ use terms::Signature;
 
 pub mod algebra;
 pub mod calls;
+pub mod given;
 
 // A square matrix, row by row; of a smaller dimension, its upper left corner.
 #[derive(Clone, Copy)]

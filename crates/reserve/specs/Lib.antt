@@ -1,1 +1,1 @@
-pub mod Openings
+pub mod Strictness

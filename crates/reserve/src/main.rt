@@ -1,17 +1,16 @@
-// Reads a rule text and a start term from the current folder, follows the trip to its normal form and prints a record:
-// rules and symbols, the start term's heights, the number of steps, the final term by name. A refusal prints only its
-// line.
+// Reads a rule text, a certificate and a start term from the current folder, reserves the term's height from the largest
+// pool, opens a job in full, sweeps for the reserve, settles, and prints a record. A refusal prints only its line.
 #![tactic(auto)]
 
-mod opening;
+mod record;
+mod strictness;
 
-use algebras::Algebra;
-use opening::{Opened, open};
-use printing::NamedTerm;
+use hosting::{HostFault, host};
+use jobs::read_inputs;
+use pools::{MOST_STEPS, Pool};
+use record::Record;
 use std::io::{ErrorKind, Read};
 use std::{fs, io};
-use trips::{End, Trip, follow};
-use worked_parts::{WorkedPart, part};
 
 // Only this many bytes of a file count.
 const MOST_BYTES: u64 = 65_536;
@@ -28,44 +27,21 @@ fn read_file(rt: &HostRuntime, path: &str) -> io::Result<Vec<u8>> {
     }
 }
 
-// Until certificates are read: the term's heights by two parts for addition, where they fit its signature.
-fn print_heights(rt: &HostRuntime, opened: &Opened) -> io::Result<()> {
-    for which in [WorkedPart::First, WorkedPart::Second] {
-        let part = part(which);
-        if !part.fits(opened.names.signature()) {
-            continue;
-        }
-        match part.measure(opened.names.signature(), opened.subject.codes()) {
-            Ok(height) => println!(rt; "{which} height {height}")?,
-            Err(fault) => println!(rt; "{which} {fault}")?,
-        }
-    }
-    Ok(())
-}
-
-fn run(rt: &HostRuntime, mut opened: Opened) -> io::Result<()> {
-    let rules = opened.subject.system().rules().len();
-    let symbols = opened.names.signature().arities().len();
-    println!(rt; "rules {rules} symbols {symbols}")?;
-    print_heights(rt, &opened)?;
-    let Trip { end, steps } = follow(&mut opened.subject);
-    println!(rt; "steps {steps}")?;
-    let term = NamedTerm {
-        names: &opened.names,
-        codes: opened.subject.codes(),
-    };
-    println!(rt; "term {term}")?;
-    if end != End::Normal {
-        println!(rt; "ended {end}")?;
-    }
-    Ok(())
+// Everything is read before anything is reserved, and everything is settled before anything is printed.
+fn reserve(rules: &[u8], certificate: &[u8], start: &[u8]) -> Result<Record, HostFault> {
+    let inputs = read_inputs(rules, certificate, start)?;
+    let pile = inputs.certificate.pile();
+    let mut pool = Pool::new(MOST_STEPS, 1)?;
+    let hosted = host(&mut pool, inputs.system, &pile, inputs.term.as_slice())?;
+    Ok(Record { inputs, hosted })
 }
 
 fn main(rt: HostRuntime) -> io::Result<()> {
     let rules = read_file(&rt, "rules.trs")?;
+    let certificate = read_file(&rt, "proof.cert")?;
     let start = read_file(&rt, "start.term")?;
-    match open(&rules, &start) {
-        Ok(opened) => run(&rt, opened),
+    match reserve(&rules, &certificate, &start) {
+        Ok(record) => record.print(&rt),
         Err(fault) => println!(rt; "{fault}"),
     }
 }

@@ -46,6 +46,46 @@ module _ (sig : List ℕ) (rules : List Rule) where
   sought_value cs None s = none_from 0 cs s
   sought_value cs (Some m) s = some_from 0 m.0 m.1 m.0 cs (omega arith) s.0 s.1 s.2
 
+  -- what the search from a place on comes to
+  SoughtFrom : ℕ → List ℕ → Option (ℕ × ℕ) → Type 0
+  SoughtFrom i cs None = (q : ℕ) → q < length cs → lowest_rule rules (sub_at sig cs q) ≡ None
+  SoughtFrom i cs (Some m) =
+      (q : ℕ) × (m.0 ≡ i + q) × (q < length cs) × (lowest_rule rules (sub_at sig cs q) ≡ Some m.1) × ((j : ℕ) → j < q → lowest_rule rules (sub_at sig cs j) ≡ None)
+
+  further : (i c : ℕ) (cs : List ℕ) (o : Option (ℕ × ℕ)) → lowest_rule rules (sub_at sig (c ∷ cs) 0) ≡ None → SoughtFrom (i + 1) cs o → SoughtFrom i (c ∷ cs) o
+  unfolding SoughtFrom
+  further i c cs None e h = go
+    where
+      go : (q : ℕ) → q < length (c ∷ cs) → lowest_rule rules (sub_at sig (c ∷ cs) q) ≡ None
+      go zero l = e
+      go (suc q) l = h q (omega arith)
+  further i c cs (Some m) e h = (suc h.0, (let k = h.1 in omega arith), (let l = h.2 in omega arith), h.3, go)
+    where
+      go : (j : ℕ) → j < suc h.0 → lowest_rule rules (sub_at sig (c ∷ cs) j) ≡ None
+      go zero l = e
+      go (suc j) l = h.4 j (omega arith)
+
+  found_from : (i c : ℕ) (cs : List ℕ) (o : Option ℕ) → lowest_rule rules (sub_at sig (c ∷ cs) 0) ≡ o → SoughtFrom (i + 1) cs (first_from sig rules (i + 1) cs)
+      → SoughtFrom i (c ∷ cs) (found i o (first_from sig rules (i + 1) cs))
+  unfolding SoughtFrom
+  found_from i c cs None e h = further i c cs (first_from sig rules (i + 1) cs) e h
+  found_from i c cs (Some n) e h = (0, omega arith, omega arith, e, λ j l. absurd (omega arith))
+
+  sought_from : (i : ℕ) (cs : List ℕ) → SoughtFrom i cs (first_from sig rules i cs)
+  unfolding SoughtFrom
+  sought_from i [] = λ q l. absurd (omega arith)
+  sought_from i (c ∷ cs) = found_from i c cs (lowest_rule rules (sub_at sig (c ∷ cs) 0)) refl (sought_from (i + 1) cs)
+
+  from_start : (cs : List ℕ) (o : Option (ℕ × ℕ)) → SoughtFrom 0 cs o → Sought cs o
+  unfolding SoughtFrom
+  from_start cs None h = h
+  from_start cs (Some m) h =
+      let e : h.0 ≡ m.0 = (let k = h.1 in omega arith) in
+      subst (λ p. (p < length cs) × (lowest_rule rules (sub_at sig cs p) ≡ Some m.1) × ((q : ℕ) → q < p → lowest_rule rules (sub_at sig cs q) ≡ None)) e (h.2, h.3, h.4)
+
+  pub sought_first : (cs : List ℕ) → Sought cs (first_redex sig rules cs)
+  sought_first cs = from_start cs (first_redex sig rules cs) (sought_from 0 cs)
+
 module _ (sig : List ℕ) (few : length sig ≤ 32) (rules : List Rule) (fine : T (rules_over sig rules)) (cs : List ℕ) (ok : T (is_term sig cs)) where
   -- no match at a place, no step there
   stuck : (p n : ℕ) (u : Term) → ((r : Rule) → Numbered rules n r → matches r.left (sub_at sig cs p) ≡ false) → Step rules n p (term_of sig cs) u → ⊥
@@ -74,6 +114,10 @@ module _ (sig : List ℕ) (few : length sig ≤ 32) (rules : List Rule) (fine : 
   sought_means None h = λ n p u s.
       none_at p n u (h p (let a = step_inside rules n p (term_of sig cs) u s in let b = size_of sig few cs ok p in omega arith)) s
   sought_means (Some m) h = first m.0 m.1 h.0 h.1 h.2
+
+  -- so the definition finds the first redex
+  pub first_means : FirstRedex rules (term_of sig cs) (first_redex sig rules cs)
+  first_means = sought_means (first_redex sig rules cs) (sought_first sig rules cs)
 
 -- the search as calls at each place, which stop at the first answer
 at_item : (P : ℕ → Type 0) (o : Option ℕ) (k : ℕ) → option_map (λ y. y) o ≡ Some k → IfSome o P → P k

@@ -1,5 +1,5 @@
 -- What a rewrite of a subject comes to, test by test.
-use Rattle.std.proofs.Common.{◌≡◌, ℕ, ◌<◌, ◌≤◌, Bool, true, false, cond, not, T, ltb, List, length, get_or, is_some, Some, None, Ok, Err, Decides, Option, Result, sym, refl, ap, ◌∙◌, subst, ap₂, subst₂, arith, ltb-true}
+use Rattle.std.proofs.Common.{◌≡◌, ℕ, ◌<◌, ◌≤◌, Bool, true, false, cond, not, T, ltb, leb, List, length, get_or, is_some, Some, None, Ok, Err, Decides, Option, Result, sym, refl, ap, ◌∙◌, subst, ap₂, subst₂, arith, ltb-true}
 use Rattle.std.specs.Option.{ok_or}
 use Rattle.std.specs.Result.{IsErrAnd}
 use Rattle.std.proofs.lemmas.Bool.{lt-ltb, le-ltb}
@@ -9,16 +9,18 @@ use Rattle.rewriting.specs.declared.subject.Subject.{Subject}
 use Rattle.terms.specs.declared.rule.Rule as kept
 use Rattle.terms.specs.Terms.{Term}
 use Rattle.terms.specs.Rules.{Rule}
+use Rattle.rewriting.specs.Matching.{matches}
+use Rattle.rewriting.specs.Filling.{next_codes}
 use Rattle.terms.specs.Steps.{Normal, FirstRedex}
-use Rattle.terms.specs.Codes.{is_term, term_of}
+use Rattle.terms.specs.Codes.{is_term, term_of, sub_at}
 use Rattle.terms.specs.Shapes.{is_rule, rule_of}
 use Rattle.terms.specs.Models.{sides_of, all_sides, all_rules}
 use Rattle.terms.specs.Systems.{listed_rules, rules_from}
 use Rattle.rewriting.specs.declared.place.Place.{Place}
 use Rattle.rewriting.specs.Places.{Placed}
-use Rattle.rewriting.specs.Replies.{rule_at, stepped, rewritten, answer, codes_after}
+use Rattle.rewriting.specs.Replies.{rule_at, stepped, rewritten, redex_of, answer, codes_after}
 use Rattle.rewriting.specs.Subjects.{arities_in, rules_in, codes_in, term_in}
-use Rattle.rewriting.specs.Laws.{Rewrites}
+use Rattle.rewriting.specs.Laws.{RedexTold, Rewrites}
 use Rattle.rewriting.proofs.Systems.{few_in, rules_fine, length_rules, rule-here, is_rule-here}
 use Rattle.rewriting.proofs.Telling.{rewrite_law, rewrite_term}
 
@@ -68,6 +70,38 @@ module _ (s : Subject) (n at : ℕ) where
 
   pub made : (u : List ℕ) → Ok u ≡ Reply → Done (Ok tt) u
   made u k = done (Ok tt) u (ap answer k) (ap (codes_after (codes_in s)) k)
+
+  -- a redex as the rewrite would tell it
+  told_redex : (r : Result (List ℕ) RewriteFault) → Rewrites (rules_in s) (term_in s) n at (answer r) (term_of (arities_in s) (codes_after (codes_in s) r)) → RedexTold (rules_in s) (term_in s) n at (redex_of r)
+  told_redex (Ok cs) w = (term_of (arities_in s) cs, w.told)
+  told_redex (Err fault.Malformed) w = absurd w.told
+  told_redex (Err fault.NoRule) w = w.told.1
+  told_redex (Err fault.NoPlace) w = w.told.1
+  told_redex (Err fault.NoMatch) w = w.told.1
+  told_redex (Err fault.TooLong) w = (w.told.1.0, w.told.1.1)
+
+  pub record Checked (r : Result (Unit {0}) RewriteFault) : Type 0 where
+    pub value : r ≡ redex_of Reply
+    pub means : RedexTold (rules_in s) (term_in s) n at r
+
+  pub checked : (r : Result (Unit {0}) RewriteFault) → r ≡ redex_of Reply → Checked r
+  checked r e = record {
+    value = e;
+    means = subst (RedexTold (rules_in s) (term_in s) n at) (sym e) (told_redex Reply (rewrite_law (arities_in s) (few_in s.system) (codes_in s) at (rules_in s) (rules_fine s.system) s.over n));
+  }
+
+  -- a refusal that the rewrite would give too
+  pub unchecked : {e g : RewriteFault} (r : Result (Unit {0}) RewriteFault) → IsErrAnd r (λ f. f ≡ e) → e ≡ g → Err g ≡ redex_of Reply → Checked r
+  unchecked (Ok x) h same k = absurd h
+  unchecked (Err f) h same k = checked (Err f) (ap (λ x. Err x) (h ∙ same) ∙ k)
+
+  pub redex_stepped : (sig cs : List ℕ) (r : Rule) (b : Bool) → matches r.left (sub_at sig cs at) ≡ b → cond b (Ok tt) (Err fault.NoMatch) ≡ redex_of (stepped sig cs at r)
+  redex_stepped sig cs r b e = go b (leb (length (next_codes sig cs at r)) 1024) ∙ ap (λ m. redex_of (cond m (cond (leb (length (next_codes sig cs at r)) 1024) (Ok (next_codes sig cs at r)) (Err fault.TooLong)) (Err fault.NoMatch))) (sym e)
+    where
+      go : (b f : Bool) → cond b (Ok tt) (Err fault.NoMatch) ≡ redex_of (cond b (cond f (Ok (next_codes sig cs at r)) (Err fault.TooLong)) (Err fault.NoMatch))
+      go true true = refl
+      go true false = refl
+      go false f = refl
 
   module _ {rs : List kept.Rule} (er : rs ≡ listed_rules s.system) where
     in_rules : (b : Bool) → b ≡ ltb n (length rs) → b ≡ ltb n (length (rules_in s))

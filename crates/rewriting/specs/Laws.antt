@@ -24,6 +24,15 @@ Matched sig pattern cs at (Err fault.NoPlace) = (t : Reading sig cs) × (size t.
 Matched sig pattern cs at (Err fault.NoMatch) = ⊥
 Matched sig pattern cs at (Err fault.TooLong) = ⊥
 
+-- whether some step leads on from t by a rule number at a place, or why none does
+abbrev pub RedexTold : List Rule → Term → ℕ → ℕ → Result (Unit {0}) RewriteFault → Type 0
+RedexTold rules t n at (Ok x) = (u : Term) × Step rules n at t u
+RedexTold rules t n at (Err fault.Malformed) = ⊥
+RedexTold rules t n at (Err fault.NoRule) = length rules ≤ n
+RedexTold rules t n at (Err fault.NoPlace) = size t ≤ at
+RedexTold rules t n at (Err fault.NoMatch) = (u : Term) → Step rules n at t u → ⊥
+RedexTold rules t n at (Err fault.TooLong) = ⊥
+
 -- what the answer of a rewrite of t by a rule number at a place says, where u is the term afterwards
 abbrev pub Told : List Rule → Term → ℕ → ℕ → Result (Unit {0}) RewriteFault → Term → Type 0
 Told rules t n at (Ok x) u = Step rules n at t u

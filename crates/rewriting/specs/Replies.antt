@@ -37,6 +37,15 @@ abbrev pub rewritten : List ℕ → List Rule → List ℕ → ℕ → ℕ → R
 rewritten sig rules cs n at =
     cond (nat_lt n (length rules)) (cond (nat_lt at (length cs)) (stepped sig cs at (rule_at rules n)) (Err fault.NoPlace)) (Err fault.NoRule)
 
+-- whether there is a redex: also where the next term is too long
+abbrev pub redex_of : Result (List ℕ) RewriteFault → Result (Unit {0}) RewriteFault
+redex_of (Ok next) = Ok tt
+redex_of (Err fault.Malformed) = Err fault.Malformed
+redex_of (Err fault.NoRule) = Err fault.NoRule
+redex_of (Err fault.NoPlace) = Err fault.NoPlace
+redex_of (Err fault.NoMatch) = Err fault.NoMatch
+redex_of (Err fault.TooLong) = Ok tt
+
 -- the answer without the codes, and the codes afterwards: a refusal leaves the old ones
 abbrev pub answer : Result (List ℕ) RewriteFault → Result (Unit {0}) RewriteFault
 answer (Ok next) = Ok tt

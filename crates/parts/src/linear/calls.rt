@@ -1,5 +1,5 @@
 // What is made, told and reckoned of a linear part.
-ghost use Rattle.std.specs.Prelude.{◌≡◌, ◌<◌, min, refl, nat_eq, nat_lt, slice_index};
+ghost use Rattle.std.specs.Prelude.{◌≡◌, ◌<◌, min, IfSome, refl, nat_eq, nat_lt, slice_index};
 ghost use Rattle.terms.specs.Models.{arities_of};
 ghost use Rattle.interpretations.specs.Numbers.{every};
 ghost use Rattle.interpretations.specs.Orders.{all_ones, largest_constant, linear_ceiling};
@@ -42,7 +42,8 @@ impl LinearPart {
     // A constant for each symbol and a factor for each argument; what stands past the symbols and their arguments
     // counts for nothing. None if some factor is 0.
     pub fn new(signature: Signature, symbols: [LinearSymbol; 32]) -> Option<LinearPart>
-        ensures { Made linear_of (linear_part (arities_of signature) symbols) result }
+        ensures made { Made linear_of (linear_part (arities_of signature) symbols) result }
+        ensures kept { IfSome result (λ p. (p.signature ≡ signature) × (p.symbols ≡ symbols)) }
     {
         if !all_symbols(&signature, &symbols, LinearSymbol::is_positive) {
             return None;

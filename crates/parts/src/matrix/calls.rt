@@ -1,5 +1,5 @@
 // What is made, told and reckoned of a matrix part.
-ghost use Rattle.std.specs.Prelude.{◌≡◌, ◌*◌, ◌<◌, ◌≤◌, All, min, [], refl, take, nat_lt, slice_index, slice_index_or, sum_by};
+ghost use Rattle.std.specs.Prelude.{◌≡◌, ◌*◌, ◌<◌, ◌≤◌, All, IfSome, min, [], refl, take, nat_lt, slice_index, slice_index_or, sum_by};
 ghost use Rattle.std.specs.List.{zip};
 ghost use Rattle.terms.specs.Models.{arities_of};
 ghost use Rattle.algebras.specs.Meanings.{reach};
@@ -53,7 +53,8 @@ impl MatrixPart {
         dimension: usize,
         symbols: [MatrixSymbol; 32],
     ) -> Option<MatrixPart>
-        ensures { Made matrix_of (matrix_part (arities_of signature) dimension symbols) result }
+        ensures made { Made matrix_of (matrix_part (arities_of signature) dimension symbols) result }
+        ensures kept { IfSome result (λ p. (p.signature ≡ signature) × (p.dimension ≡ dimension) × (p.symbols ≡ symbols)) }
     {
         if dimension == 0 || dimension > 4 {
             return None;

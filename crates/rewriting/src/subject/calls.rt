@@ -6,9 +6,9 @@ ghost use Rattle.terms.specs.Systems.{signature_of};
 ghost use Rattle.terms.specs.Replies.{viewed};
 ghost use Rattle.terms.specs.Laws.{Reading};
 ghost use Rattle.rewriting.specs.Searching.{first_redex, lowest_rule as lowest_rule_of};
-ghost use Rattle.rewriting.specs.Replies.{rewritten, answer, codes_after};
+ghost use Rattle.rewriting.specs.Replies.{rewritten, redex_of, answer, codes_after};
 ghost use Rattle.rewriting.specs.Subjects.{arities_in, rules_in, codes_in, term_in, opened, subject_reply};
-ghost use Rattle.rewriting.specs.Laws.{Rewrites};
+ghost use Rattle.rewriting.specs.Laws.{RedexTold, Rewrites};
 
 use crate::fault::RewriteFault;
 use crate::place::Place;
@@ -66,6 +66,20 @@ impl Subject {
         ensures { Decides result (Normal (rules_in self.now) (term_in self.now)) }
     {
         self.first_redex().is_none()
+    }
+
+    // Whether the rule of a number matches at a place, or why not: there is a redex also where the next term is too long.
+    pub fn check_redex(&self, rule: usize, place: usize) -> Result<(), RewriteFault>
+        ensures value { result ≡ redex_of (rewritten (arities_in self.now) (rules_in self.now) (codes_in self.now) rule place) }
+        ensures means { RedexTold (rules_in self.now) (term_in self.now) rule place result }
+    {
+        let rule = self.system.rules().get(rule).ok_or(RewriteFault::NoRule)?;
+        let place = Place::inside(self.system.signature(), self.codes(), place);
+        let place = place.ok_or(RewriteFault::NoPlace)?;
+        if place.match_with(rule.left()).is_none() {
+            return Err(RewriteFault::NoMatch);
+        }
+        Ok(())
     }
 
     // A step by a rule number at a place; what is refused leaves the term as it is.

@@ -3,8 +3,8 @@ use Rattle.terms.proofs.Booleans.{held}
 use Rattle.parts.specs.MakingLemmas.{matrix_positive, monotone_from, not_monotone}
 use Rattle.parts.proofs.matrix.MatrixPart.new.Goals as goal
 
-pub returns-then-not-all_symbols : goal.returns-then-not-all_symbols
-returns-then-not-all_symbols c =
+pub returns-then-not-all_symbols-clause-made : goal.returns-then-not-all_symbols-clause-made
+returns-then-not-all_symbols-clause-made c =
     let told = matrix_positive c.args.signature c.args.dimension c.args.symbols c.all_symbols.result (omega arith) c.all_symbols.ensures in
     λ m d. not_monotone _ (sym c.if-not-all_symbols.true ∙ told) m
 
@@ -14,8 +14,8 @@ invariant_of-result c =
     let some : 0 < c.args.dimension = omega arith in
     record { some = some; narrow = omega arith; tops = held _ (sym told ∙ c.if-not-all_symbols.false) }
 
-pub returns : goal.returns
-returns c =
+pub returns-clause-made : goal.returns-clause-made
+returns-clause-made c =
     let told = matrix_positive c.args.signature c.args.dimension c.args.symbols c.all_symbols.result (omega arith) c.all_symbols.ensures in
     let some : 0 < c.args.dimension = omega arith in
     (refl, monotone_from _ some (held _ (sym told ∙ c.if-not-all_symbols.false)), omega arith)

@@ -1,0 +1,2 @@
+-- Slots for grants.
+pub mod Slots

@@ -1,0 +1,5 @@
+pub mod Opening
+pub mod Lawful
+pub mod Replaying
+pub mod Reading
+pub mod TextOpening

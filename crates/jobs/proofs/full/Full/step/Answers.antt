@@ -1,0 +1,17 @@
+use Rattle.std.specs.Prelude.{[]}
+use Rattle.job_calls.specs.Calls.{Asked.step}
+use Rattle.jobs.specs.Views.{state_of}
+use Rattle.jobs.proofs.Lawful.{call_lawful, call_lasts, step_got}
+use Rattle.jobs.proofs.full.Full.step.Goals as goal
+
+pub invariant_of-self : goal.invariant_of-self
+invariant_of-self c =
+    let f = c.args.self.now in
+    let g = c.args.grant.now.number in
+    record { lasts = call_lasts f.job f.lasts [] (step g c.args.rule c.args.place) _ (step_got f.job f.lasts g c.args.rule c.args.place c.step.result (state_of c.step.new.self) c.step.ensures) }
+
+pub returns-clause-law : goal.returns-clause-law
+returns-clause-law c =
+    let f = c.args.self.now in
+    let g = c.args.grant.now.number in
+    call_lawful f.job f.lasts [] (step g c.args.rule c.args.place) _ (step_got f.job f.lasts g c.args.rule c.args.place c.step.result (state_of c.step.new.self) c.step.ensures)

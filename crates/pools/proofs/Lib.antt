@@ -1,0 +1,5 @@
+pub mod Effects
+pub mod Histories
+pub mod Places
+pub mod Running
+pub mod Settlings
