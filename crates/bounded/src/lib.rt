@@ -1,4 +1,5 @@
-// Vectors of bounded length that own their memory, for everything in the product that has a limit.
+// Vectors of bounded length that own their memory, for everything in the product that has a limit. Each call says what items
+// it leaves.
 #![tactic(auto)]
 
 pub mod array_vec;

@@ -1,4 +1,5 @@
-// Certificates: bytes, read in place, record by record, into the parts of a pile.
+// Certificates: bytes, read in place, record by record, into the parts of a pile. That they are accepted exactly if they are
+// how parts are written stands on `read_certificate`.
 #![tactic(auto)]
 
 mod body;

@@ -1,5 +1,5 @@
 // One evaluator for every kind of value: a term's codes are read from the last to the first, and the values of the
-// terms behind a code wait on a stack over lent memory.
+// terms behind a code wait on a stack over lent memory. That the value is the term's stands on `evaluate`.
 #![tactic(auto)]
 
 ghost use Rattle.std.specs.Prelude.{◌≡◌, ◌+◌, ◌<◌, ◌≤◌, T, length, if◌then◌else◌, is_some};

@@ -1,4 +1,5 @@
-// Heights of terms and linear forms of rules, for any kind of vector: by the one evaluator, on codes.
+// Heights of terms and linear forms of rules, for any kind of vector: by the one evaluator, on codes. `height` and `compare`
+// answer by the definitions of `interpretations`.
 #![tactic(auto)]
 
 ghost use Rattle.std.specs.Prelude.{◌≡◌, length};

@@ -12,7 +12,7 @@ use Rattle.jobs.specs.declared.job.Job.{Job}
 use Rattle.jobs.specs.Views.{state_of}
 
 pub sound_of : (j : Job) → Sound (state_of j)
-sound_of j = record { few = few_in j.subject.system; rules_fine = rules_fine j.subject.system; term = j.subject.over; within = j.within }
+sound_of j = record { few = few_in j.search.subject.system; rules_fine = rules_fine j.search.subject.system; term = j.search.subject.over; within = j.within }
 
 -- what a list of one call comes to
 abbrev pub one : Got → Ran

@@ -3,3 +3,4 @@ pub mod Lawful
 pub mod Replaying
 pub mod Reading
 pub mod TextOpening
+pub mod Sweeps

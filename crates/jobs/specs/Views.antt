@@ -5,10 +5,10 @@ use Rattle.jobs.specs.declared.job.Job.{Job}
 
 abbrev pub state_of : Job → State
 state_of j = record {
-  arities = arities_in j.subject;
-  rules = rules_in j.subject;
+  arities = arities_in j.search.subject;
+  rules = rules_in j.search.subject;
   number = j.number;
   reserve = j.reserve;
-  codes = codes_in j.subject;
+  codes = codes_in j.search.subject;
   count = j.count;
 }

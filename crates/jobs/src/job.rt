@@ -1,13 +1,13 @@
 // A job: a term and its system, its grant's number and amount, and how many steps were made.
 ghost use Rattle.std.specs.Prelude.{◌≤◌};
 
-use rewriting::Subject;
+use resuming::Search;
 
 mod calls;
 
 #[derive(Drop)]
 pub struct Job {
-    subject: Subject,
+    search: Search,
     number: u32,
     // The grant's amount.
     reserve: u64,

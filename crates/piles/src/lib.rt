@@ -1,4 +1,4 @@
-// The parts of a certificate as algebras, and the pile that four of them make.
+// The parts of a certificate as algebras, and the pile that four of them make: the sum of two sums, by `pile_of`.
 #![tactic(auto)]
 
 pub mod part;

@@ -1,4 +1,5 @@
-// Pools of rewrite steps, the grants that they give, and a ledger of the grants that are out.
+// Pools of rewrite steps, the grants that they give, and a ledger of the grants that are out. The law over runs stands on
+// `Ledger::perform`; that no grant is let go, on the `Drop` of `Grant`.
 #![tactic(auto)]
 
 pub mod fault;

@@ -1,4 +1,4 @@
-// Terms printed with their names: what is printed is read back as the term.
+// Terms printed with their names: what is printed is read back as the term, by the contract of `print_term`.
 #![tactic(auto)]
 
 pub mod fault;

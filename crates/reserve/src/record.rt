@@ -1,6 +1,7 @@
 // The record of a trip, line by line.
 use crate::strictness::strict_part;
 use algebras::{Algebra, AlgebraFault};
+use folders::Counts;
 use hosting::Hosted;
 use jobs::{End, Inputs};
 use printing::NamedTerm;
@@ -31,16 +32,10 @@ impl Record {
 
     // How many rules, symbols and parts there are, and for each rule the lowest part that alone is strict on it.
     fn print_system(&self, rt: &HostRuntime) -> io::Result<()> {
+        println!(rt; "{}", Counts(&self.inputs))?;
         let signature = self.inputs.system.signature();
-        let rules = self.inputs.system.rules();
         let parts = self.inputs.certificate.parts();
-        println!(rt;
-            "rules {} symbols {} parts {}",
-            rules.len(),
-            signature.arities().len(),
-            parts.len(),
-        )?;
-        for (number, rule) in rules.iter().enumerate() {
+        for (number, rule) in self.inputs.system.rules().iter().enumerate() {
             if let Some(part) = strict_part(parts, signature, rule) {
                 println!(rt; "rule {number} part {part}")?;
             }

@@ -1,4 +1,5 @@
-// Rule texts and start terms.
+// Rule texts and start terms, read: accepted exactly if they are spelled, and read as what they spell. The law stands on
+// `read_rules` and `read_term`.
 #![tactic(auto)]
 
 mod document;

@@ -11,7 +11,7 @@ use rewriting::{RewriteFault, Subject};
 use std::convert::Infallible;
 use std::fmt;
 
-// Until pools and jobs give a trip its reserve, this many steps are made at most.
+// A trip has no reserve, as a job has: this many steps are made at most.
 pub const MOST_STEPS: u64 = 1_000_000;
 
 #[derive(Clone, Copy, PartialEq, Eq, Debug)]

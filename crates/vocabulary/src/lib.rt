@@ -1,4 +1,5 @@
-// The names of a text: what each stands for, and the arities that its uses have fixed.
+// The names of a text: what each stands for, and the arities that its uses have fixed. That a name keeps its code, whatever is
+// added, stands on the calls of `Vocabulary`.
 #![tactic(auto)]
 
 pub mod flaw;

@@ -11,6 +11,7 @@ ghost use Rattle.jobs.specs.Openings.{short_reply, checked};
 use crate::job::Job;
 use job_calls::{End, JobFault, Look, Sweep};
 use pools::Grant;
+use resuming::Search;
 use rewriting::Subject;
 use terms::{Malformed, System};
 
@@ -21,7 +22,7 @@ impl Job {
     {
         let subject = Subject::new(system, codes)?;
         Ok(Job {
-            subject,
+            search: Search::new(subject),
             number: grant.number(),
             reserve: grant.amount(),
             count: 0,
@@ -29,9 +30,9 @@ impl Job {
     }
 
     pub fn subject(&self) -> &Subject
-        ensures { result.now ≡ self.now.subject }
+        ensures { result.now ≡ self.now.search.subject }
     {
-        &self.subject
+        self.search.subject()
     }
 
     fn check(&self, grant: &Grant) -> Result<(), JobFault>
@@ -49,10 +50,10 @@ impl Job {
     {
         self.check(grant)?;
         if self.count == self.reserve {
-            self.subject.check_redex(rule, place)?;
+            self.search.subject().check_redex(rule, place)?;
             return Err(JobFault::Spent);
         }
-        self.subject.rewrite(rule, place)?;
+        self.search.rewrite(rule, place)?;
         self.count += 1;
         Ok(())
     }
@@ -62,11 +63,11 @@ impl Job {
         ensures next { viewed (λ _. state_of self.new) result ≡ advanced (state_of self.old) }
         ensures same { IfErr result (λ _. state_of self.new ≡ state_of self.old) }
     {
-        let (place, rule) = self.subject.first_redex().ok_or(End::Normal)?;
+        let (place, rule) = self.search.seek().ok_or(End::Normal)?;
         if self.count == self.reserve {
             return Err(End::Spent);
         }
-        if self.subject.rewrite(rule, place).is_err() {
+        if self.search.rewrite(rule, place).is_err() {
             return Err(End::TooLong);
         }
         self.count += 1;
@@ -83,7 +84,7 @@ impl Job {
                 return Ok(Sweep { end, steps });
             }
         }
-        let end = match self.subject.first_redex() {
+        let end = match self.search.seek() {
             None => End::Normal,
             Some(_) => End::More,
         };
@@ -94,8 +95,8 @@ impl Job {
         ensures { result ≡ look_reply (state_of self.now) }
     {
         Look {
-            first: self.subject.first_redex(),
-            size: self.subject.codes().len(),
+            first: self.search.first_redex(),
+            size: self.subject().codes().len(),
             count: self.count,
             left: self.reserve - self.count,
         }
@@ -103,9 +104,9 @@ impl Job {
 
     // The term's codes, to the front of a memory; the answer is how many.
     pub fn copy_out(&self, out: &mut [u16]) -> Result<usize, JobFault>
-        ensures { (result, out.new) ≡ copy_reply (codes_in self.now.subject) out.old }
+        ensures { (result, out.new) ≡ copy_reply (codes_in self.now.search.subject) out.old }
     {
-        let codes = self.subject.codes();
+        let codes = self.subject().codes();
         if out.len() < codes.len() {
             return Err(JobFault::ShortMemory);
         }
@@ -115,7 +116,7 @@ impl Job {
 
     // The same to so many first places.
     pub(crate) fn copy_to(&self, memory: &mut [u16], room: usize) -> Result<usize, JobFault>
-        ensures { (result, memory.new) ≡ copy_to_reply (codes_in self.now.subject) room memory.old }
+        ensures { (result, memory.new) ≡ copy_to_reply (codes_in self.now.search.subject) room memory.old }
     {
         let room = room.min(memory.len());
         self.copy_out(&mut memory[..room])

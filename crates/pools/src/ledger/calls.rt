@@ -1,5 +1,5 @@
 // The calls on a ledger.
-ghost use Rattle.std.specs.Prelude.{◌≡◌, ◌<◌, ◌≤◌, ◌+◌, [], length, vec_len, vec_capacity, IfOk, OnErr, AllPairs, MatchResult, position};
+ghost use Rattle.std.specs.Prelude.{◌≡◌, ◌<◌, ◌≤◌, ◌+◌, [], ◌∷◌, find, option_copied, length, vec_len, vec_capacity, IfOk, OnErr, AllPairs, MatchResult, position};
 ghost use Rattle.pools.specs.Views.{state_of};
 ghost use Rattle.pools.specs.Runs.{performing, run, closed};
 ghost use Rattle.pools.specs.Grants.{number_of, has_number};
@@ -46,6 +46,13 @@ impl Ledger {
         self.out.as_slice()
     }
 
+    // The one of a number, if it is out.
+    pub fn grant(&self, number: u32) -> Option<&Grant>
+        ensures { option_copied result ≡ find (has_number number) (ledger_of self.now).out }
+    {
+        self.grants().iter().find(|grant| grant.number() == number)
+    }
+
     fn reserve(&mut self, amount: u64) -> PoolReply
         requires { vec_len self.old.out < vec_capacity self.old.out }
         ensures value { (result, ledger_of self.new) ≡ performing (ledger_of self.old) (PoolCall.Reserve amount) }
@@ -85,6 +92,16 @@ impl Ledger {
             PoolCall::Reserve(amount) => self.reserve(amount),
             PoolCall::Settle(number) => self.settle(number),
         }
+    }
+
+    // One call. Without memory for a grant more it is not performed.
+    pub fn call(&mut self, call: PoolCall) -> Result<PoolReply, AllocError>
+        ensures value { IfOk result (λ r. (r, ledger_of self.new) ≡ performing (ledger_of self.old) call) }
+        ensures unchanged { OnErr result (ledger_of self.new ≡ ledger_of self.old) }
+        ensures means { IfOk result (λ r. Lawful (ledger_of self.old) (call ∷ []) (r ∷ []) (ledger_of self.new)) }
+    {
+        self.out.try_reserve(1)?;
+        Ok(self.step(call))
     }
 
     // Performs the calls in turn, and answers each. Memory for all is set aside first: where there is none, none is performed.

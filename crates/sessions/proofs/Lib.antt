@@ -1,0 +1,3 @@
+pub mod Unchanged
+pub mod Calling
+pub mod Lawful
