@@ -91,7 +91,9 @@ class Function:
         self.has_contract = "ensures" in text[start:body] or bool(owners) and " for " in owners[0]
         gives = re.search(r"->\s*(.*?)\s*$", code[start:body], re.S)
         self.gives = gives[1] if gives else "()"
-        self.lines = text.count("\n", 0, start) + 1, text.count("\n", 0, end) + 1
+        # What is told of a function with attributes is told at the first of them.
+        first = re.search(r"(?m)(?:^ *#\[.*\n)*.*\Z", text[:start]).start()
+        self.lines = text.count("\n", 0, first) + 1, text.count("\n", 0, end) + 1
         self.area = {self}
 
     def stands_at(self, file, line):
@@ -102,8 +104,11 @@ class Function:
 
 
 def functions(folder):
-    found = []
-    for file in sources(folder):
+    found, files = [], sources(folder)
+    # Tests in a file of their own.
+    apart = {os.path.join(os.path.dirname(file), f"{it}.rt") for file in files
+             for it in re.findall(r"#\[cfg\(test\)\]\s*mod (\w+);", read(file))}
+    for file in (it for it in files if it not in apart):
         text = read(file)
         code = blanked(text)
         for m in re.finditer(r"\bfn (\w+)", code):
@@ -236,7 +241,7 @@ class Plant:
         self.f, self.kind, self.start, self.end = f, kind, start, end
         # Lines keep their numbers.
         self.new = new + "\n" * (f.text.count("\n", start, end) - new.count("\n"))
-        self.verdict = self.why = ""
+        self.verdict, self.why, self.is_proved = "", "", False
 
     def told(self):
         text, first = self.f.text, self.f.text.rfind("\n", 0, self.start) + 1
@@ -340,7 +345,7 @@ def try_together(copy, plants, another=lambda f: None):
         plants = [other for p in plants if (other := another(p.f) if p in broken else p)]
     for p in plants:
         p.why = facts.get(p, gone.get(p, ""))
-        p.verdict = "refused" if p in facts else "unfit" if p in gone else ""
+        p.verdict, p.is_proved = "refused" if p in facts else "unfit" if p in gone else "", status == 0
         if NO_CODE.search(p.why):
             p.verdict = "does not compile"
     if len(plants) == 1 and status and not plants[0].verdict:
@@ -359,9 +364,12 @@ def try_all(copy, waiting, most):
                 taken |= f.area
                 group.append(waiting[f].pop(0))
         for p in try_together(copy, group, lambda f: waiting[f].pop(0) if waiting[f] else None):
-            if not p.verdict and copy.fails(p):
+            if p.is_proved and copy.fails(p):
                 p.verdict = "tested"
             if p.verdict or try_together(copy, [p]):
+                # Not told of, while others were refused: it is tried alone before it counts as proved.
+                if not p.verdict and copy.fails(p):
+                    p.verdict = "tested"
                 given[p.f] += 1
                 count += 1
                 p.verdict = p.verdict or "PASSES"

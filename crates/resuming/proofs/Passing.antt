@@ -1,23 +1,29 @@
 -- What a search passes by has no redex.
 use Rattle.std.specs.Result.{is_ok}
-use Rattle.std.proofs.Common.{◌≡◌, ℕ, ◌+◌, ◌<◌, ◌≤◌, Bool, true, false, T, List, ◌++◌, length, take, get_or, Some, None, Ok, Err, Option, Result, sym, ap, ◌∙◌, subst, arith, ◌⊎◌, inl, inr}
+use Rattle.std.proofs.Common.{◌≡◌, ℕ, ◌+◌, ◌<◌, ◌≤◌, ◌&&◌, Bool, true, false, T, List, ◌++◌, length, take, get_or, Some, None, Ok, Err, Option, Result, sym, ap, ◌∙◌, subst, arith, ◌⊎◌, inl, inr}
 use Rattle.std.proofs.lemmas.Bool.{cases_lt}
 use Rattle.std.proofs.Math.Seq.{take-append_seam}
 use Rattle.terms.specs.declared.system.System as held
 use Rattle.terms.specs.declared.rule.Rule as code
-use Rattle.terms.specs.Terms.{Term, codes, over, size}
+use Rattle.terms.specs.Terms.{Term, Term.var, Term.app, codes, over, size, under}
 use Rattle.terms.specs.Contexts.{plug, before_hole, after_hole, Occurrence}
-use Rattle.terms.specs.Rules.{Rule, Numbered}
+use Rattle.terms.specs.Rules.{Rule, Numbered, headed, bound}
 use Rattle.terms.specs.Steps.{Step, First, FirstRedex, Normal}
 use Rattle.terms.specs.Models.{sides_of}
 use Rattle.terms.specs.Systems.{signature_of, listed_rules, rules_of}
-use Rattle.terms.proofs.Places.{codes_plug, length_before, located}
+use Rattle.std.proofs.lemmas.List.{get_or-append-add}
+use Rattle.std.proofs.Math.ListN.{get_or-append}
+use Rattle.terms.proofs.Places.{codes_plug, length_before, length_codes, located}
 use Rattle.terms.proofs.Readings.{counted_codes}
 use Rattle.terms.specs.Codes.{is_term, term_of}
 use Rattle.terms.specs.Shapes.{is_proper}
+use Rattle.std.proofs.Common.{refl, eqb, slice_get}
+use Rattle.std.proofs.lemmas.Bool.{eqb-false}
+use Rattle.std.proofs.lemmas.Option.{get_or_from_slice_get, slice_get-get_or}
+use Rattle.terms.proofs.Overs.{rule-numbered}
 use Rattle.terms.proofs.Booleans.{fst_of, snd_of, clash}
 use Rattle.terms.proofs.Splices.{over_plugged}
-use Rattle.terms.proofs.Views.{counted}
+use Rattle.terms.proofs.Views.{counted, size_positive}
 use Rattle.rewriting.specs.declared.fault.RewriteFault.{RewriteFault}
 use Rattle.rewriting.specs.declared.fault.RewriteFault.TheVariants as fault
 use Rattle.rewriting.specs.declared.subject.Subject.{Subject}
@@ -26,11 +32,11 @@ use Rattle.rewriting.specs.Searching.{first_redex}
 use Rattle.rewriting.specs.Subjects.{arities_in, rules_in, codes_in, term_in}
 use Rattle.rewriting.proofs.Looks.{first_means}
 use Rattle.rewriting.proofs.Stepwise.{numbered_below, rule_listed, step_inside, size_of}
-use Rattle.rewriting.proofs.Systems.{few_in, rules_fine, rule-here, is_rule-here}
+use Rattle.rewriting.proofs.Systems.{few_in, rules_fine, rule-here, is_rule-here, length_rules}
 use Rattle.job_calls.proofs.Only.{first_unique}
 use Rattle.resuming.specs.Shapes.{levels, shallow, seen, symbols, unrepeated}
 use Rattle.resuming.specs.Climbing.{above, back_up}
-use Rattle.resuming.specs.Laws.{NoneNew, NoneBelow, NoneBelowAfter, LowestAt}
+use Rattle.resuming.specs.Laws.{NoneNew, NoneBelow, NoneBelowAfter, LowestAt, MakesStep, Begins}
 use Rattle.resuming.proofs.Climbs.{backs_up}
 use Rattle.resuming.proofs.Resuming.{Shallow, none_new}
 use Rattle.resuming.proofs.Symbols.{shallow_left}
@@ -151,3 +157,60 @@ module _ (s u : Subject) (same : u.system ≡ s.system) where
   pub after_step : (n at from : ℕ) (r : Result (Unit {0}) RewriteFault) → r ≡ Ok tt → Told (rules_in s) (term_in s) n at r (term_in u) → NoneBelowAfter (rules_in s) (term_in s) at from → NoneBelow (rules_in u) (term_in u) from
   after_step n at from r is told after =
       subst (λ y. NoneBelow (rules_of y) (term_in u) from) (sym same) (after n (term_in u) (subst (λ x. Told (rules_in s) (term_in s) n at x (term_in u)) is told))
+
+-- a look for a redex tells whether there is a step
+pub makes_step : (rules : List Rule) (t : Term) (n at : ℕ) (r : Result (Unit {0}) RewriteFault) → RedexTold rules t n at r → MakesStep rules t n at (is_ok r)
+makes_step rules t n at (Ok x) h = h
+makes_step rules t n at (Err f) h = no_redex rules t n at f h
+
+-- a left side begins as the subterm that it matches
+begun : (σ : ℕ → Term) (l : Term) → T (headed l) → get_or (codes (under σ l)) 0 0 ≡ get_or (codes l) 0 0
+begun σ (var v) h = absurd h
+begun σ (app f ts) h = refl
+
+module _ (s : Subject) where
+  pub heads_meet : (n p : ℕ) (x : code.Rule) (u : Term) → n < length (listed_rules s.system) → x ≡ get_or (listed_rules s.system) n x → Step (rules_in s) n p (term_in s) u → get_or (codes_in s) p 0 ≡ get_or (sides_of x).left 0 0
+  heads_meet n p x u within is a =
+      let sig = arities_in s in
+      let cs = codes_in s in
+      let same : a.rule ≡ _ = rule_listed (rules_in s) n a.rule a.listed ∙ rule-here sig (listed_rules s.system) n x within is in
+      let side : T (is_term sig (sides_of x).left) = fst_of (is_term sig (sides_of x).left) _ (snd_of (is_proper (sides_of x).left (sides_of x).right) _ (is_rule-here sig (listed_rules s.system) n x s.system.over within is)) in
+      let left : codes a.rule.left ≡ (sides_of x).left = ap (λ r. codes r.left) same ∙ counted_codes sig (sides_of x).left (counted sig (sides_of x).left side) in
+      let part = codes (under a.σ a.rule.left) in
+      let whole : cs ≡ before_hole a.context ++ (part ++ after_hole a.context) = sym (counted_codes sig cs (counted sig cs s.over)) ∙ ap codes a.from ∙ codes_plug a.context (under a.σ a.rule.left) in
+      let long : p ≡ length (before_hole a.context) + 0 = sym a.placed ∙ sym (length_before a.context) ∙ omega arith in
+      let some : 0 < length part = let l = length_codes (under a.σ a.rule.left) in let k = size_positive (under a.σ a.rule.left) in omega arith in
+      let fine = rule-numbered sig (rules_in s) n a.rule (rules_fine s.system) a.listed in
+      let head : T (headed a.rule.left) = fst_of (headed a.rule.left) _ (snd_of (over sig a.rule.left && over sig a.rule.right) (headed a.rule.left && bound a.rule.left a.rule.right) fine) in
+      ap (λ l. get_or l p 0) whole ∙ ap (λ k. get_or (before_hole a.context ++ (part ++ after_hole a.context)) k 0) long ∙ get_or-append-add (before_hole a.context) (part ++ after_hole a.context) 0 0
+      ∙ get_or-append part (after_hole a.context) 0 0 some ∙ begun a.σ a.rule.left head ∙ ap (λ l. get_or l 0 0) left
+
+  pub no_such_rule : (n p : ℕ) → length (listed_rules s.system) ≤ n → (u : Term) → Step (rules_in s) n p (term_in s) u → ⊥
+  no_such_rule n p h u a =
+      let l = numbered_below (rules_in s) n a.rule a.listed in
+      let m = length_rules (arities_in s) (listed_rules s.system) in
+      let z : ⊥ = omega arith in z
+
+  pub no_such_place : (n p : ℕ) → length (codes_in s) ≤ p → (u : Term) → Step (rules_in s) n p (term_in s) u → ⊥
+  no_such_place n p h u a =
+      let l = step_inside (rules_in s) n p (term_in s) u a in
+      let m = size_of (arities_in s) (few_in s.system) (codes_in s) s.over 0 in
+      let z : ⊥ = omega arith in z
+
+  -- what the first codes tell
+  pub begins_told : (n p : ℕ) (x : code.Rule) (a b : ℕ) → n < length (listed_rules s.system) → x ≡ get_or (listed_rules s.system) n x → slice_get (sides_of x).left 0 ≡ Some a → b ≡ get_or (codes_in s) p 0 → Begins (rules_in s) (term_in s) n p (eqb a b)
+  begins_told n p x a b within is first here = go (eqb a b) refl
+    where
+      go : (t : Bool) → eqb a b ≡ t → Begins (rules_in s) (term_in s) n p t
+      go true e = tt
+      go false e = λ u h.
+          eqb-false a b e (sym (get_or_from_slice_get (sides_of x).left 0 a 0 first) ∙ sym (heads_meet n p x u within is h) ∙ sym here)
+
+  pub never_empty : (n p : ℕ) (x : code.Rule) → n < length (listed_rules s.system) → x ≡ get_or (listed_rules s.system) n x → slice_get (sides_of x).left 0 ≡ None → (u : Term) → Step (rules_in s) n p (term_in s) u → ⊥
+  never_empty n p x within is none u a =
+      let sig = arities_in s in
+      let side : T (is_term sig (sides_of x).left) = fst_of (is_term sig (sides_of x).left) _ (snd_of (is_proper (sides_of x).left (sides_of x).right) _ (is_rule-here sig (listed_rules s.system) n x s.system.over within is)) in
+      let l = size_of sig (few_in s.system) (sides_of x).left side 0 in
+      let k = size_positive (term_of sig (sides_of x).left) in
+      let some : Some (get_or (sides_of x).left 0 0) ≡ None = sym (slice_get-get_or (sides_of x).left 0 0 (omega arith)) ∙ none in
+      cc

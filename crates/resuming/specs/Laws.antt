@@ -1,5 +1,5 @@
 -- The law: below the place that is climbed to, a step makes no new redex.
-use Rattle.std.specs.Prelude.{◌≡◌, ℕ, ◌+◌, ◌<◌, T, List, length, take, Some, None, Option}
+use Rattle.std.specs.Prelude.{◌≡◌, ℕ, ◌+◌, ◌<◌, Bool, true, false, T, List, length, take, Some, None, Option}
 use Rattle.terms.specs.Codes.{is_term, term_of}
 use Rattle.resuming.specs.Shapes.{shallow}
 use Rattle.terms.specs.Terms.{Term}
@@ -32,3 +32,13 @@ pub record Lowest (rules : List Rule) (t : Term) (p k : ℕ) : Type 0 where
 abbrev pub LowestAt : List Rule → Term → ℕ → Option ℕ → Type 0
 LowestAt rules t p None = (n : ℕ) (u : Term) → Step rules n p t u → ⊥
 LowestAt rules t p (Some k) = Lowest rules t p k
+
+-- a test says whether there is a step
+abbrev pub MakesStep : List Rule → Term → ℕ → ℕ → Bool → Type 0
+MakesStep rules t n p true = (u : Term) × Step rules n p t u
+MakesStep rules t n p false = (u : Term) → Step rules n p t u → ⊥
+
+-- where a test fails there is no step
+abbrev pub Begins : List Rule → Term → ℕ → ℕ → Bool → Type 0
+Begins rules t n p true = Unit {0}
+Begins rules t n p false = (u : Term) → Step rules n p t u → ⊥

@@ -5,7 +5,7 @@ ghost use Rattle.rewriting.specs.Searching.{first_redex};
 ghost use Rattle.rewriting.specs.Replies.{rewritten, answer, codes_after};
 ghost use Rattle.rewriting.specs.Subjects.{arities_in, rules_in, codes_in, term_in};
 ghost use Rattle.rewriting.specs.Laws.{Rewrites};
-ghost use Rattle.resuming.specs.Laws.{LowestAt, NoneBelowAfter};
+ghost use Rattle.resuming.specs.Laws.{Begins, MakesStep, LowestAt, NoneBelowAfter};
 
 use crate::climbing::back_up;
 use crate::search::Search;
@@ -31,12 +31,37 @@ impl Search {
         &self.subject
     }
 
+    // Whether the left side of a rule begins as the subterm at a place: without that there is no match.
+    fn begins(&self, rule: usize, place: usize) -> bool
+        ensures { Begins (rules_in self.now.subject) (term_in self.now.subject) rule place result }
+    {
+        let rules = self.subject.system().rules();
+        let codes = self.subject.codes();
+        if rule >= rules.len() || place >= codes.len() {
+            return false;
+        }
+        match rules[rule].left().first() {
+            Some(first) => *first == codes[place],
+            None => false,
+        }
+    }
+
+    // Whether a rule makes a step at a place.
+    fn makes_step(&self, rule: usize, place: usize) -> bool
+        ensures { MakesStep (rules_in self.now.subject) (term_in self.now.subject) rule place result }
+    {
+        if !self.begins(rule, place) {
+            return false;
+        }
+        self.subject.check_redex(rule, place).is_ok()
+    }
+
     // The lowest rule that makes a step at a place.
     fn lowest_rule(&self, place: usize) -> Option<usize>
         ensures { LowestAt (rules_in self.now.subject) (term_in self.now.subject) place result }
     {
         for rule in 0..self.subject.system().rules().len() {
-            if self.subject.check_redex(rule, place).is_ok() {
+            if self.makes_step(rule, place) {
                 return Some(rule);
             }
         }

@@ -2,13 +2,13 @@ use Rattle.std.proofs.Common.{arith, rules, ap, length}
 use Rattle.rewriting.specs.Subjects.{rules_in, term_in}
 use Rattle.rewriting.proofs.Systems.{length_rules}
 use Rattle.terms.specs.Systems.{signature_of, listed_rules}
-use Rattle.resuming.proofs.Passing.{rule_further, no_rule, not_ok}
+use Rattle.resuming.proofs.Passing.{rule_further, no_rule}
 use Rattle.resuming.proofs.search.Search.lowest_rule.Goals as goal
 
 pub loop-rule-preserved : goal.loop-rule-preserved
 loop-rule-preserved c =
     let s = c.args.self.now.subject in
-    record { below = rule_further (rules_in s) (term_in s) c.args.place c.loop-rule.rule c.loop-rule.invariant.below (not_ok (rules_in s) (term_in s) c.loop-rule.rule c.args.place c.check_redex.result (search rules) c.check_redex.ensures.means) }
+    record { below = rule_further (rules_in s) (term_in s) c.args.place c.loop-rule.rule c.loop-rule.invariant.below (search rules) }
 
 pub returns : goal.returns
 returns c =
