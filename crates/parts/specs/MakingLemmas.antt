@@ -27,7 +27,7 @@ positive_from P m =
     every_from (length P.sig) (λ f. every (slice_index P.sig f) (λ k. nat_lt 0 (P.entry f k 0 0)))
     (λ f a. every_from (slice_index P.sig f) (λ k. nat_lt 0 (P.entry f k 0 0)) (λ k b. lt→ltb 0 (P.entry f k 0 0) (m.tops f k a b)))
 
-positive_is : (P : Part) (b : Bool) → b ≡ every (length P.sig) (λ f. every (slice_index P.sig f) (λ k. nat_lt 0 (P.entry f k 0 0))) → b ≡ positive P
+pub positive_is : (P : Part) (b : Bool) → b ≡ every (length P.sig) (λ f. every (slice_index P.sig f) (λ k. nat_lt 0 (P.entry f k 0 0))) → b ≡ positive P
 unfolding positive
 positive_is P b e = e
 

@@ -19,8 +19,10 @@ use Rattle.reading.specs.Outcomes.{Outcome.accepted, outcome}
 use Rattle.reading.proofs.Texts.{term_text_exactly}
 use Rattle.printing.specs.Texts.{text, spelled}
 use Rattle.printing.specs.Showing.{all_named}
-use Rattle.printing.specs.Replies.{is_printable, words_reply, text_of}
-use Rattle.printing.specs.Laws.{Coded, Printed, Termless, Cramped}
+use Rattle.refusals.specs.Lines.{line}
+use Rattle.printing.specs.declared.fault.PrintFault.TheVariants.{NoTerm}
+use Rattle.printing.specs.Replies.{print_refusal, is_printable, words_reply, text_of}
+use Rattle.printing.specs.Laws.{Coded, Printed, Termless, Cramped, Readable, ShownBy, DisplayedExactly}
 use Rattle.reading.proofs.Complete.{as_many, settled, over_signature}
 use Rattle.printing.proofs.Sound.{Sound, sound, over_names, codes_named}
 use Rattle.printing.proofs.Shows.{shows_term}
@@ -72,6 +74,18 @@ module _ (n : Naming) (s : Sound n) where
         tokens_back = words_back n s x.term x.named;
         reads_back = read_back cs x;
       }
+
+  readable : (cs : List ℕ) → Coded v cs → Readable v cs (text_of n cs)
+  readable cs x =
+      let e = text-spelled cs x in
+      record { of = x; is = e; tokens_back = words_back n s x.term x.named; reads_back = ap (outcome (start_term v)) e ∙ read_back cs x }
+
+  shown_by : (cs : List ℕ) (b : Bool) → is_printable n cs ≡ b → ShownBy b v cs (cond b (text_of n cs) (line (print_refusal NoTerm)))
+  shown_by cs true e = readable cs (coded_of cs (held _ e))
+  shown_by cs false e = record { none = λ t g h c. never _ (printable_of t cs g h c) e; is = refl }
+
+pub displayed_exactly : (x : Names) (cs : List ℕ) → DisplayedExactly (naming_of x) cs
+displayed_exactly x cs = shown_by (naming_of x) (sound x) cs (is_printable (naming_of x) cs) refl
 
 -- at each end of the call, under the names of the code
 module _ (x : Names) (cs out : List ℕ) where

@@ -1,9 +1,11 @@
 // A term with its names, displayed as its text.
-ghost use Rattle.std.specs.Prelude.{◌≡◌, Some};
+ghost use Rattle.std.specs.Prelude.{◌≡◌, None, Some};
 ghost use Rattle.vocabulary.specs.Models.{vocabulary_of};
 ghost use Rattle.vocabulary.specs.Naming.{naming_of};
 ghost use Rattle.printing.specs.Showing.{all_named};
 ghost use Rattle.printing.specs.Replies.{is_printable, displayed};
+ghost use Rattle.printing.specs.Laws.{DisplayedExactly};
+ghost use Rattle.std.specs.Fmt.{DisplaysOnOk, DisplaysStyledOnOk};
 
 use crate::fault::PrintFault;
 use crate::speller::Speller;
@@ -36,7 +38,12 @@ impl NamedTerm<'_> {
 impl fmt::Display for NamedTerm<'_> {
     ghost output = { λ t. Some (displayed (naming_of t.names.now) t.codes.now) };
 
-    fn fmt<W: fmt::Write>(&self, f: &mut fmt::Formatter<W>) -> fmt::Result {
+    #[tactic(auto, using(crate::proofs::Exactly::displayed_exactly))]
+    fn fmt<W: fmt::Write>(&self, f: &mut fmt::Formatter<W>) -> fmt::Result
+        ensures writes { DisplaysOnOk W.write_str_gives f.old result (Some (displayed (naming_of self.now.names.now) self.now.codes.now)) f.new }
+        ensures styled { DisplaysStyledOnOk W.write_str_gives f.old result None f.new }
+        ensures means { DisplayedExactly (naming_of self.now.names.now) self.now.codes.now }
+    {
         let Some(speller) = Speller::new(*self) else {
             return PrintFault::NoTerm.fmt(f);
         };

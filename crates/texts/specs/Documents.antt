@@ -22,6 +22,12 @@ abbrev pub goes_on : Result held.Phase Flaw → Parts → Move
 goes_on (Ok p) d = to (with_phase d (phase_of p d.side))
 goes_on (Err f) d = flawed f
 
+-- the same, where what was awaited may stay as it is
+abbrev pub goes_on_from : held.Phase → Result (Option held.Phase) Flaw → Parts → Move
+goes_on_from p (Ok None) d = goes_on (Ok p) d
+goes_on_from p (Ok (Some q)) d = goes_on (Ok q) d
+goes_on_from p (Err f) d = flawed f
+
 -- a token, or the text's end, which comes too early
 abbrev pub token_move : Document → Option Word → Bool → Move
 token_move d (Some w) bare = move d w bare

@@ -34,7 +34,9 @@ impl Side {
     pub fn restart(&mut self)
         ensures { state_of self.new ≡ fresh }
     {
-        *self = Side::new();
+        self.uses.clear();
+        self.codes.clear();
+        self.awaits = Await::Term;
     }
 
     // Whether the term is complete.

@@ -1,6 +1,5 @@
 // Codes under a signature: are they a term, and where does a subterm end?
-ghost use Rattle.std.specs.Prelude.{◌≡◌, ◌-◌, ◌≤◌, length, is_ok};
-ghost use Rattle.std.specs.List.{list_all};
+ghost use Rattle.std.specs.Prelude.{◌≡◌, ◌-◌, ◌≤◌, cond, length, is_ok, IfSome, None, Some};
 ghost use Rattle.terms.specs.Limits.{most_term};
 ghost use Rattle.terms.specs.Codes.{arity, known, is_term, first_terms};
 ghost use Rattle.terms.specs.Shapes.{all_within, is_rule};
@@ -8,11 +7,10 @@ ghost use Rattle.terms.specs.Models.{arities_of};
 ghost use Rattle.terms.specs.Replies.{viewed, signature_reply, span_reply, end_reply};
 ghost use Rattle.terms.specs.Laws.{SignatureExactly, TermExactly, RuleExactly, EndsExactly};
 
-use crate::code::Code;
 use crate::malformed::Malformed;
 use crate::rule::is_proper;
 use crate::signature::Signature;
-use crate::{MOST_ARGUMENTS, MOST_TERM, VARIABLES};
+use crate::{FIRST_VARIABLE, LAST_VARIABLE, MOST_ARGUMENTS, MOST_TERM};
 use bounded::ArrayVec;
 
 fn all_small(arities: &[u8]) -> bool
@@ -40,33 +38,28 @@ impl Signature {
         self.arities.as_slice()
     }
 
-    // The number of arguments of a code: none for a variable or an unknown code.
+    // The number of arguments of a code: none for a variable, whose code is past all symbols, or an unknown code.
+    #[tactic(auto, using(bounded::proofs::Lengths::items_few))]
     pub fn arity(&self, code: u16) -> usize
         ensures value { result ≡ arity (arities_of self.now) code }
         ensures small { result ≤ 4 }
     {
-        match Code::from(code) {
-            Code::Symbol(symbol) => {
-                let arity = self.arities().get(symbol as usize);
-                arity.map_or(0, |arity| *arity as usize)
-            }
-            Code::Variable(_) => 0,
-        }
+        let arity = self.arities().get(code as usize);
+        arity.map_or(0, |arity| *arity as usize)
     }
 
-    fn is_known(&self, code: u16) -> bool
-        ensures { result ≡ known (arities_of self.now) code }
+    // The number of arguments of a code that is known. Symbols are looked up first: their codes are the lowest.
+    #[tactic(auto, using(bounded::proofs::Lengths::items_few))]
+    fn arguments(&self, code: u16) -> Option<usize>
+        ensures value { result ≡ cond (known (arities_of self.now) code) (Some (arity (arities_of self.now) code)) None }
+        ensures small { IfSome result (λ count. count ≤ 4) }
     {
-        match Code::from(code) {
-            Code::Symbol(symbol) => (symbol as usize) < self.arities().len(),
-            Code::Variable(variable) => variable < VARIABLES,
+        match self.arities().get(code as usize) {
+            Some(arity) => Some(*arity as usize),
+            None => (FIRST_VARIABLE..=LAST_VARIABLE)
+                .contains(&code)
+                .then_some(0),
         }
-    }
-
-    fn are_known(&self, codes: &[u16]) -> bool
-        ensures { result ≡ list_all (known (arities_of self.now)) codes.now }
-    {
-        codes.iter().all(|code| self.is_known(*code))
     }
 
     // How many codes the first term takes; none where the codes end before it is complete.
@@ -92,7 +85,18 @@ impl Signature {
         if codes.len() > MOST_TERM {
             return false;
         }
-        self.are_known(codes) && self.first_term(codes) == Some(codes.len())
+        // One pass, that stops at an unknown code and at a code behind a whole term.
+        let mut awaited: usize = 1;
+        for code in codes {
+            if awaited == 0 {
+                return false;
+            }
+            let Some(count) = self.arguments(*code) else {
+                return false;
+            };
+            awaited = awaited - 1 + count;
+        }
+        awaited == 0
     }
 
     // How many codes the subterm at a place takes, by counting; nothing is asked of the codes.

@@ -9,7 +9,6 @@ ghost use Rattle.texts.specs.Documents.{document_of, moved, token_move};
 use crate::document::Document;
 use crate::parts::{Parts, Phase};
 use reading::{Block, Lookahead, Role};
-use std::mem;
 use vocabulary::{Flaw, Vocabulary};
 
 impl Document {
@@ -36,10 +35,19 @@ impl Document {
     pub(crate) fn step(&mut self, ahead: &Lookahead) -> Result<(), Flaw>
         ensures { moved result (document_of self.new) ≡ token_move (document_of self.old) (word_of ahead.now.token) ahead.now.bare }
     {
-        // Behind a refusal nothing is read.
-        let phase = mem::replace(&mut self.phase, Phase::Closed);
-        self.phase = self.parts.step(phase, ahead)?;
-        Ok(())
+        match self.parts.step(&self.phase, ahead) {
+            // More of a term is awaited, as before: its phase holds a side, and is not moved for each token.
+            Ok(None) => Ok(()),
+            Ok(Some(next)) => {
+                self.phase = next;
+                Ok(())
+            }
+            // Behind a refusal nothing is read.
+            Err(flaw) => {
+                self.phase = Phase::Closed;
+                Err(flaw)
+            }
+        }
     }
 
     // The text's end, which may come too early.

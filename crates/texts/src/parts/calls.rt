@@ -8,7 +8,8 @@ ghost use Rattle.reading.specs.Documents.{Phase.bracket, Phase.keyword, Phase.va
 ghost use Rattle.reading.specs.Holding.{Held};
 ghost use Rattle.reading.specs.Models.{role_of, state_of};
 ghost use Rattle.texts.specs.Parts.{rules_of, phase_of, with_phase};
-ghost use Rattle.texts.specs.Documents.{goes_on, token_move, Follows};
+ghost use Rattle.texts.specs.declared.parts.Phase.TheVariants.{Inside};
+ghost use Rattle.texts.specs.Documents.{goes_on, goes_on_from, token_move, Follows};
 
 use crate::parts::{Parts, Phase, RuleCodes};
 use bounded::ArrayVec;
@@ -78,25 +79,26 @@ impl Parts {
         }
     }
 
-    // One token of a term, and what follows a whole one.
-    fn inside(&mut self, role: Role, ahead: &Lookahead) -> Result<Phase, Flaw>
-        requires { Held (vocabulary_of self.old.vocabulary) (rules_of (items self.old.rules)) (inside (role_of role) (state_of self.old.side)) }
-        ensures { goes_on result self.new ≡ token_move (with_phase self.old (inside (role_of role) (state_of self.old.side))) (word_of ahead.now.token) ahead.now.bare }
+    // One token of a term, and what follows a whole one; none where more of the term is awaited, as before.
+    fn inside(&mut self, role: &Role, ahead: &Lookahead) -> Result<Option<Phase>, Flaw>
+        requires { Held (vocabulary_of self.old.vocabulary) (rules_of (items self.old.rules)) (inside (role_of role.now) (state_of self.old.side)) }
+        ensures { goes_on_from (Inside role.now) result self.new ≡ token_move (with_phase self.old (inside (role_of role.now) (state_of self.old.side))) (word_of ahead.now.token) ahead.now.bare }
     {
-        self.side.step(&role, &mut self.vocabulary, ahead)?;
+        self.side.step(role, &mut self.vocabulary, ahead)?;
         if !self.side.is_whole() {
-            return Ok(Phase::Inside(role));
+            return Ok(None);
         }
         let codes = ArrayVec::from_slice(0, self.side.codes.as_slice());
-        Ok(match role {
+        Ok(Some(match role {
             Role::Left => Phase::Arrow(codes.unwrap()),
             Role::Right(left) => {
+                let left = *left;
                 let right = codes.unwrap();
                 self.rules.push(RuleCodes { left, right }).unwrap();
                 Phase::Rule
             }
             Role::Start => Phase::Ended,
-        })
+        }))
     }
 
     // A rule, or the end of their block.
@@ -107,7 +109,8 @@ impl Parts {
             Token::Named(_) if self.rules.as_slice().len() >= MOST_RULES => Err(Flaw::TooMany),
             Token::Named(_) => {
                 self.side.restart();
-                self.inside(Role::Left, ahead)
+                let next = self.inside(&Role::Left, ahead)?;
+                Ok(next.unwrap_or(Phase::Inside(Role::Left)))
             }
             Token::Close => Ok(Phase::Closed),
             Token::Long => Err(Flaw::LongName),
@@ -129,19 +132,19 @@ impl Parts {
         }
     }
 
-    // By what is awaited.
-    pub(crate) fn step(&mut self, phase: Phase, ahead: &Lookahead) -> Result<Phase, Flaw>
-        requires { Held (vocabulary_of self.old.vocabulary) (rules_of (items self.old.rules)) (phase_of phase self.old.side) }
-        ensures { goes_on result self.new ≡ token_move (with_phase self.old (phase_of phase self.old.side)) (word_of ahead.now.token) ahead.now.bare }
+    // By what is awaited; none where that stays as it is.
+    pub(crate) fn step(&mut self, phase: &Phase, ahead: &Lookahead) -> Result<Option<Phase>, Flaw>
+        requires { Held (vocabulary_of self.old.vocabulary) (rules_of (items self.old.rules)) (phase_of phase.now self.old.side) }
+        ensures { goes_on_from phase.now result self.new ≡ token_move (with_phase self.old (phase_of phase.now self.old.side)) (word_of ahead.now.token) ahead.now.bare }
     {
-        match phase {
-            Phase::Bracket(block) => bracket(block, &ahead.token),
-            Phase::Keyword(block) => keyword(block, &ahead.token),
-            Phase::Variable => self.variable(&ahead.token),
-            Phase::Rule => self.rule(ahead),
-            Phase::Arrow(left) => self.arrow(left, &ahead.token),
-            Phase::Inside(role) => self.inside(role, ahead),
-            Phase::Closed | Phase::Ended => Err(Flaw::Misplaced),
-        }
+        Ok(Some(match phase {
+            Phase::Bracket(block) => bracket(*block, &ahead.token)?,
+            Phase::Keyword(block) => keyword(*block, &ahead.token)?,
+            Phase::Variable => self.variable(&ahead.token)?,
+            Phase::Rule => self.rule(ahead)?,
+            Phase::Arrow(left) => self.arrow(*left, &ahead.token)?,
+            Phase::Inside(role) => return self.inside(role, ahead),
+            Phase::Closed | Phase::Ended => return Err(Flaw::Misplaced),
+        }))
     }
 }
