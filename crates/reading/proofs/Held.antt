@@ -1,5 +1,5 @@
 -- What holds of a text goes on to hold.
-use Rattle.std.proofs.Common.{◌≡◌, ℕ, ◌≤◌, Bool, true, false, cond, leb, List, length, is_some, refl, subst, arith}
+use Rattle.std.proofs.Common.{◌≡◌, ℕ, ◌≤◌, Bool, true, false, cond, leb, List, length, is_some, Some, None, Option, refl, sym, ◌∙◌, subst, arith}
 use Rattle.std.specs.Str.{bytes_eq}
 use Rattle.std.proofs.lemmas.Bool.{leb-false}
 use Rattle.tokens.specs.Tokens.{Word, Word.lpar, Word.rpar, Word.comma, Word.arrow, Word.named, Word.long, Word.illegal}
@@ -14,7 +14,9 @@ use Rattle.reading.specs.Sides.{Role, Role.left, Role.right, Role.start, limit, 
 use Rattle.reading.specs.Fits.{Fit}
 use Rattle.reading.specs.Documents.{Phase, Phase.bracket, Phase.keyword, Phase.variable, Phase.rule, Phase.arrow_behind, Phase.inside, Phase.closed, Phase.ended, Document, Move.to, Move.flawed, document, word_for, behind_keyword, behind, turned, continued, term_move, move_by, move}
 use Rattle.reading.specs.Holding.{Room, Held, Holds}
+use Rattle.reading.specs.Models.{side_step}
 use Rattle.reading.proofs.Sounds.{back}
+use Rattle.reading.proofs.Closing.{known_step}
 
 unmoved : (d d1 : Document) → Holds d → to d ≡ to d1 → Holds d1
 unmoved d d1 h e = let is : d ≡ d1 = cc in subst Holds is h
@@ -110,3 +112,10 @@ module _ (v : Vocabulary) (rs : List Sides) (even : length v.arities ≡ length 
 
 pub held_on : (d d1 : Document) (w : Word) (b : Bool) → Holds d → move d w b ≡ to d1 → Holds d1
 held_on d d1 w b h e = keeps d.names d.rules h.even d1 d.phase h.held w b e
+
+-- in the midst of a term too, also where a token makes it whole
+pub held_inside : (rs : List Sides) (p : Role) (v : Vocabulary) (s : State) (o : Option Word) (b : Bool) → Held v rs (inside p s) → (v1 : Vocabulary) (s1 : State) → go v1 s1 ≡ side_step p v s o b → Held v1 rs (inside p s1)
+held_inside rs p v s None b h v1 s1 e = cc
+held_inside rs p v s (Some w) b h v1 s1 e =
+    let x = back p v v1 s s1 w b h.1 h.0 (sym (e ∙ known_step p v s (Some w) b h.0.known)) in
+    (x.fit, x.short, h.2)

@@ -7,7 +7,6 @@ ghost use Rattle.texts.specs.Faults.{FaultsIn};
 
 use crate::document::Document;
 use crate::fault::{Source, TextFault};
-use reading::Lookahead;
 use tokens::{Lexer, Token};
 use vocabulary::Flaw;
 
@@ -28,11 +27,8 @@ pub(crate) fn read(document: &mut Document, source: Source, text: &[u8]) -> Resu
     let mut current = lexer.next();
     while !matches!(current.token, Token::End) {
         let following = lexer.next();
-        let ahead = Lookahead {
-            token: current.token,
-            bare: !matches!(following.token, Token::Open),
-        };
-        placed(document.step(&ahead), source, current.at)?;
+        let bare = !matches!(following.token, Token::Open);
+        placed(document.step(&current.token, bare), source, current.at)?;
         current = following;
     }
     placed(document.end(), source, current.at)

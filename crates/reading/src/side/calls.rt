@@ -168,17 +168,18 @@ impl Side {
         Ok(())
     }
 
-    // One token. The text's end comes too early.
-    pub fn step(
+    // One token, where `bare` says that no bracket follows it. The text's end comes too early.
+    pub fn read_token(
         &mut self,
         role: &Role,
         vocabulary: &mut Vocabulary,
-        ahead: &Lookahead,
+        token: &Token,
+        bare: bool,
     ) -> Result<(), Flaw>
-        ensures { reply_of result (vocabulary_of vocabulary.new) (state_of self.new) ≡ side_step (role_of role.now) (vocabulary_of vocabulary.old) (state_of self.old) (word_of ahead.now.token) ahead.now.bare }
+        ensures { reply_of result (vocabulary_of vocabulary.new) (state_of self.new) ≡ side_step (role_of role.now) (vocabulary_of vocabulary.old) (state_of self.old) (word_of token.now) bare }
     {
-        match (self.awaits, &ahead.token) {
-            (Await::Term, Token::Named(name)) => self.begin(role, vocabulary, name, ahead.bare),
+        match (self.awaits, token) {
+            (Await::Term, Token::Named(name)) => self.begin(role, vocabulary, name, bare),
             (Await::Term, Token::Long) => Err(Flaw::LongName),
             (Await::Bracket, Token::Open) => self.open(),
             (Await::After, Token::Comma) => self.comma(),
@@ -187,5 +188,17 @@ impl Side {
             (Await::NoBracket, _) => Err(Flaw::Arguments),
             _ => Err(Flaw::Misplaced),
         }
+    }
+
+    // The same, of a token with its lookahead.
+    pub fn step(
+        &mut self,
+        role: &Role,
+        vocabulary: &mut Vocabulary,
+        ahead: &Lookahead,
+    ) -> Result<(), Flaw>
+        ensures { reply_of result (vocabulary_of vocabulary.new) (state_of self.new) ≡ side_step (role_of role.now) (vocabulary_of vocabulary.old) (state_of self.old) (word_of ahead.now.token) ahead.now.bare }
+    {
+        self.read_token(role, vocabulary, &ahead.token, ahead.bare)
     }
 }

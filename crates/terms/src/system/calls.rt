@@ -25,9 +25,7 @@ impl System {
         ensures value { viewed system_of result ≡ system_reply (arities_of signature) (all_sides rules.now) }
         ensures means { SystemExactly (arities_of signature) (all_sides rules.now) (viewed system_of result) }
     {
-        // In place: a `Result` of a vector of this size would be copied on its way.
-        let mut kept = ArrayVec::new(Rule::unused());
-        kept.extend(rules).map_err(|_| Malformed::System)?;
+        let kept = ArrayVec::from_slice(Rule::unused(), rules).map_err(|_| Malformed::System)?;
         if !are_rules(&signature, rules) {
             return Err(Malformed::System);
         }

@@ -8,7 +8,8 @@ ghost use Rattle.texts.specs.Documents.{document_of, moved, token_move};
 
 use crate::document::Document;
 use crate::parts::{Parts, Phase};
-use reading::{Block, Lookahead, Role};
+use reading::{Block, Role};
+use tokens::Token;
 use vocabulary::{Flaw, Vocabulary};
 
 impl Document {
@@ -31,23 +32,16 @@ impl Document {
         }
     }
 
-    // One token. The text's end comes too early.
-    pub(crate) fn step(&mut self, ahead: &Lookahead) -> Result<(), Flaw>
-        ensures { moved result (document_of self.new) ≡ token_move (document_of self.old) (word_of ahead.now.token) ahead.now.bare }
+    // One token, where `bare` says that no bracket follows it. The text's end comes too early.
+    pub(crate) fn step(&mut self, token: &Token, bare: bool) -> Result<(), Flaw>
+        ensures { moved result (document_of self.new) ≡ token_move (document_of self.old) (word_of token.now) bare }
     {
-        match self.parts.step(&self.phase, ahead) {
-            // More of a term is awaited, as before: its phase holds a side, and is not moved for each token.
-            Ok(None) => Ok(()),
-            Ok(Some(next)) => {
-                self.phase = next;
-                Ok(())
-            }
-            // Behind a refusal nothing is read.
-            Err(flaw) => {
-                self.phase = Phase::Closed;
-                Err(flaw)
-            }
+        let answer = self.parts.step(&mut self.phase, token, bare);
+        // Behind a refusal nothing is read.
+        if answer.is_err() {
+            self.phase = Phase::Closed;
         }
+        answer
     }
 
     // The text's end, which may come too early.

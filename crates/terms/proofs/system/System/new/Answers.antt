@@ -17,21 +17,21 @@ use Rattle.terms.proofs.system.System.new.Goals as goal
 law : (s : Signature) (ss : List Sides) (r : Result System Malformed) → r ≡ system_reply (arities_of s) ss → SystemExactly (arities_of s) ss r
 law s ss r e = system_law (arities_of s) (few_symbols (arities_of s) s.limited) ss r e
 
-pub returns-in_err-map_err-clause-means : goal.returns-in_err-map_err-clause-means
-returns-in_err-map_err-clause-means c =
+pub returns-in_err-kept-clause-means : goal.returns-in_err-kept-clause-means
+returns-in_err-kept-clause-means c =
     let v : viewed system_of c.from_residual.result ≡ system_reply (arities_of c.args.signature) (all_sides c.args.rules.now) = grind (arith, common_steps) in
     law c.args.signature _ _ v
 
 pub returns-then-not-are_rules : goal.returns-then-not-are_rules
 returns-then-not-are_rules c =
-    let same : items c.extend.new.self ≡ c.args.rules.now = search rules in
-    let few : length c.args.rules.now ≤ 32 = let n = items_few c.extend.new.self in let l = ap length same in omega arith in
+    let same : items c.in_ok-kept.kept ≡ c.args.rules.now = search rules in
+    let few : length c.args.rules.now ≤ 32 = let n = items_few c.in_ok-kept.kept in let l = ap length same in omega arith in
     let v = not_rules (arities_of c.args.signature) c.args.rules.now few c.if-not-are_rules.ensures in
     record { value = v; means = law c.args.signature _ (Err malformed.System) v }
 
 pub returns : goal.returns
 returns c =
-    let same : items c.extend.new.self ≡ c.args.rules.now = search rules in
-    let few : length c.args.rules.now ≤ 32 = let n = items_few c.extend.new.self in let l = ap length same in omega arith in
-    let v = made (arities_of c.args.signature) c.args.rules.now (items c.extend.new.self) few same c.if-not-are_rules.ensures in
-    record { value = v; means = law c.args.signature _ (Ok (record { arities = arities_of c.args.signature; rules = all_sides (items c.extend.new.self) })) v }
+    let same : items c.in_ok-kept.kept ≡ c.args.rules.now = search rules in
+    let few : length c.args.rules.now ≤ 32 = let n = items_few c.in_ok-kept.kept in let l = ap length same in omega arith in
+    let v = made (arities_of c.args.signature) c.args.rules.now (items c.in_ok-kept.kept) few same c.if-not-are_rules.ensures in
+    record { value = v; means = law c.args.signature _ (Ok (record { arities = arities_of c.args.signature; rules = all_sides (items c.in_ok-kept.kept) })) v }
